@@ -1,0 +1,27 @@
+-- `licence::bit_times` meets its contract: what `frame_times` requires is the bound on the length, at its kind. Assumes nothing.
+use borrow.Author.Needs.{needs}
+use Rattle.licence.specs.Row.{bitTimes}
+use Rattle.licence.proofs.bit_times.Statement.{statement}
+use Rattle.licence.proofs.bit_times.Tie as tie
+
+frame-times-requires : tie.Need-frame-times-requires
+unfolding bitTimes
+frame-times-requires c κs = rw (c .before .l2 .given .1) at (c .before .before .before .pre)
+
+frame-times-requires-2 : tie.Need-frame-times-requires-2
+unfolding bitTimes
+frame-times-requires-2 c κs = rw (c .before .l3 .given .1) at (c .before .before .before .pre)
+
+pub bit-times-spec : {M : Type 1} → statement M
+unfolding bitTimes
+bit-times-spec =
+    tie.close
+    (tie.spec
+    (λ c. search needs)
+    (λ c. search needs)
+    frame-times-requires
+    (λ c. search needs)
+    frame-times-requires-2
+    (λ c. cc)
+    (λ c. cc)
+    (λ c. cc))

@@ -1,0 +1,3 @@
+pub mod Limit
+pub mod Row
+pub mod Laws

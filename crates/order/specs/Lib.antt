@@ -1,0 +1,10 @@
+pub mod Table
+pub mod Orders
+pub mod Lists
+pub mod Places
+pub mod Counting
+pub mod Same
+pub mod Figures
+pub mod Bands
+pub mod Split
+pub mod Sheet

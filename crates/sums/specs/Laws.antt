@@ -1,0 +1,240 @@
+-- Laws of the sums, each said once for sum, greatest and least alike: they look only at the rows below n, they take in one row more, and
+-- they grow with what they are over. So does F.
+-- Assumes nothing.
+use Prim.Native.Nat.{ℕ, zero, suc, _+_, _-_, _*_, _≤_, _<_, max, min, zero-le}
+use native.Mathlib.Nat.{le-refl, le-trans, le-antisymm, le-of-eq, mul-one, mul-le-mul, add-le-add, eq-or-lt-of-le, le-of-suc-le-suc}
+use native.Mathlib.Numerals.{add-one}
+use native.Mathlib.Omega.{arith}
+use mathlib.Core.Path.{_≡_, refl, sym, ap, subst, _∙_}
+use mathlib.Core.Logic.{_⊎_, inl, inr}
+use mathlib.Core.Bool.{Bool, true, false, not, cond}
+use lib.Dec.{T as Is}
+use Rattle.sums.specs.Masks.{Mask}
+use Rattle.sums.specs.MaskLaws.{is-true, is-false}
+use Rattle.sums.specs.Sums.{over, sumOver, maxOver, minFrom, minOver, ceil, load, demand}
+use Rattle.sums.specs.Quotient.{ceil-mono, ceil-anti, ceil-pos, ceil-bound}
+
+-- ---- only the rows below n count
+
+module _ (op : ℕ → ℕ → ℕ) (z : ℕ) where
+  pub over-same : (n : ℕ) (m m′ : Mask) (f f′ : ℕ → ℕ) → ((k : ℕ) → k < n → m k ≡ m′ k) → ((k : ℕ) → k < n → f k ≡ f′ k) → over op z n m f ≡ over op z n m′ f′
+  unfolding over
+  over-same zero m m′ f f′ hm hf = refl
+  over-same (suc n) m m′ f f′ hm hf =
+      cc (over-same n m m′ f f′ (λ k l. hm k (omega arith)) (λ k l. hf k (omega arith)), hm n (le-refl (suc n)), hf n (le-refl (suc n)))
+
+  -- ---- one row more, as a loop that counts k + 1 has it: x before the turn, y after it
+
+  pub over-none : (m : Mask) (f : ℕ → ℕ) → over op z 0 m f ≡ z
+  unfolding over
+  over-none m f = refl
+
+  pub over-next : (k : ℕ) (m : Mask) (f : ℕ → ℕ) → over op z (k + 1) m f ≡ op (over op z k m f) (cond (m k) (f k) z)
+  unfolding over
+  over-next k m f = rw add-one
+
+  pub turn-in : (k : ℕ) (m : Mask) (f : ℕ → ℕ) {x y : ℕ} → m k ≡ true → x ≡ over op z k m f → y ≡ op x (f k) → y ≡ over op z (k + 1) m f
+  unfolding over
+  turn-in k m f t e h = rw (add-one, t, ← e) h
+
+  pub turn-out : (k : ℕ) (m : Mask) (f : ℕ → ℕ) {x : ℕ} → m k ≡ false → op x z ≡ x → x ≡ over op z k m f → x ≡ over op z (k + 1) m f
+  unfolding over
+  turn-out k m f t u e = rw (add-one, t, ← e) (sym u)
+
+-- ---- no row, and one row
+
+module _ (op : ℕ → ℕ → ℕ) (z : ℕ) (zz : op z z ≡ z) (m : Mask) (f : ℕ → ℕ) where
+  pub over-empty : (n : ℕ) → ((k : ℕ) → k < n → Is (m k) → ⊥) → over op z n m f ≡ z
+  unfolding over
+  over-empty zero h = refl
+  over-empty (suc n) h = rw (over-empty n (λ k l. h k (omega arith)), is-false (m n) (h n (le-refl (suc n)))) zz
+
+  pub over-alone : (x : ℕ) → op z (f x) ≡ f x → op (f x) z ≡ f x → (n : ℕ) → x < n → Is (m x) → ((k : ℕ) → k < n → Is (m k) → k ≡ x) → over op z n m f ≡ f x
+  unfolding over
+  over-alone x left right zero l t h = absurd (omega arith)
+  over-alone x left right (suc n) l t h = go (eq-or-lt-of-le (le-of-suc-le-suc l)) (λ i. over-alone x left right n i t (λ k j. h k (omega arith)))
+    where
+      go : (x ≡ n) ⊎ (x < n) → (x < n → over op z n m f ≡ f x) → op (over op z n m f) (cond (m n) (f n) z) ≡ f x
+      go (inl e) ih = rw (over-empty n (λ k j u. let q = h k (omega arith) u in omega arith), ← e, is-true (m x) t) left
+      go (inr i) ih = rw (ih i, is-false (m n) (λ u. let q = h n (le-refl (suc n)) u in omega arith)) right
+
+-- ---- they grow with what they are over
+
+cond-le : (b c : Bool) {x y : ℕ} → (Is b → Is c) → (Is b → x ≤ y) → cond b x 0 ≤ cond c y 0
+cond-le true true s h = h tt
+cond-le true false s h = absurd (s tt)
+cond-le false true s h = zero-le
+cond-le false false s h = zero-le
+
+abbrev pub Monotone : (ℕ → ℕ → ℕ) → Type 0
+Monotone op = (a b c d : ℕ) → a ≤ b → c ≤ d → op a c ≤ op b d
+
+pub over-mono : (op : ℕ → ℕ → ℕ) → Monotone op → (n : ℕ) (m m′ : Mask) (f f′ : ℕ → ℕ) → ((k : ℕ) → k < n → Is (m k) → Is (m′ k)) → ((k : ℕ) → k < n → Is (m k) → f k ≤ f′ k)
+    → over op 0 n m f ≤ over op 0 n m′ f′
+unfolding over
+over-mono op mono zero m m′ f f′ s h = zero-le
+over-mono op mono (suc n) m m′ f f′ s h =
+    mono _ _ _ _ (over-mono op mono n m m′ f f′ (λ k l. s k (omega arith)) (λ k l. h k (omega arith)))
+    (cond-le (m n) (m′ n) (s n (le-refl (suc n))) (h n (le-refl (suc n))))
+
+pub max-le-max : Monotone max
+max-le-max a b c d h k = omega arith
+
+pub sum-mono : (n : ℕ) (m m′ : Mask) (f f′ : ℕ → ℕ) → ((k : ℕ) → k < n → Is (m k) → Is (m′ k)) → ((k : ℕ) → k < n → Is (m k) → f k ≤ f′ k) → sumOver n m f ≤ sumOver n m′ f′
+sum-mono = over-mono _+_ (λ a b c d h k. add-le-add h k)
+
+pub max-mono : (n : ℕ) (m m′ : Mask) (f f′ : ℕ → ℕ) → ((k : ℕ) → k < n → Is (m k) → Is (m′ k)) → ((k : ℕ) → k < n → Is (m k) → f k ≤ f′ k) → maxOver n m f ≤ maxOver n m′ f′
+max-mono = over-mono max max-le-max
+
+-- ---- sum, greatest and least have bounds
+
+cond-most : (b : Bool) (x v : ℕ) → x ≤ v → cond b x 0 ≤ v
+cond-most true x v h = h
+cond-most false x v h = zero-le
+
+pub sum-bound : (n : ℕ) (m : Mask) (f : ℕ → ℕ) (v : ℕ) → ((k : ℕ) → k < n → f k ≤ v) → sumOver n m f ≤ n * v
+unfolding over
+sum-bound zero m f v h = zero-le
+sum-bound (suc n) m f v h = omega (arith, sum-bound n m f v (λ k l. h k (omega arith)), cond-most (m n) (f n) v (h n (le-refl (suc n))))
+
+pub max-bound : (n : ℕ) (m : Mask) (f : ℕ → ℕ) (v : ℕ) → ((k : ℕ) → k < n → f k ≤ v) → maxOver n m f ≤ v
+unfolding over
+max-bound zero m f v h = zero-le
+max-bound (suc n) m f v h = omega (arith, max-bound n m f v (λ k l. h k (omega arith)), cond-most (m n) (f n) v (h n (le-refl (suc n))))
+
+cond-in : (b : Bool) (x y : ℕ) → Is b → cond b x y ≡ x
+cond-in true x y h = refl
+cond-in false x y h = absurd h
+
+cond-ge : (b : Bool) (x y v : ℕ) → (Is b → v ≤ x) → v ≤ y → v ≤ cond b x y
+cond-ge true x y v h k = h tt
+cond-ge false x y v h k = k
+
+pub max-ge : (n : ℕ) (m : Mask) (f : ℕ → ℕ) (k : ℕ) → k < n → Is (m k) → f k ≤ maxOver n m f
+unfolding over
+max-ge zero m f k l h = absurd (omega arith)
+max-ge (suc n) m f k l h = go (eq-or-lt-of-le (le-of-suc-le-suc l)) (max-ge n m f k)
+  where
+    go : (k ≡ n) ⊎ (k < n) → (k < n → Is (m k) → f k ≤ maxOver n m f) → f k ≤ max (maxOver n m f) (cond (m n) (f n) 0)
+    go (inl e) ih = let c = cond-in (m n) (f n) 0 (subst (λ (x : ℕ). Is (m x)) e h) in let d = ap f e in omega arith
+    go (inr q) ih = let i = ih q h in omega arith
+
+max-le-sum : (n : ℕ) (m : Mask) (f : ℕ → ℕ) → maxOver n m f ≤ sumOver n m f
+unfolding over
+max-le-sum zero m f = zero-le
+max-le-sum (suc n) m f = let i = max-le-sum n m f in omega arith
+
+pub sum-ge : (n : ℕ) (m : Mask) (f : ℕ → ℕ) (k : ℕ) → k < n → Is (m k) → f k ≤ sumOver n m f
+sum-ge n m f k l h = le-trans (max-ge n m f k l h) (max-le-sum n m f)
+
+module _ (d : ℕ) (m : Mask) (f : ℕ → ℕ) where
+  pub min-le : (n k : ℕ) → k < n → Is (m k) → minFrom d n m f ≤ f k
+  unfolding over
+  min-le zero k l h = absurd (omega arith)
+  min-le (suc n) k l h = go (eq-or-lt-of-le (le-of-suc-le-suc l)) (min-le n k)
+    where
+      go : (k ≡ n) ⊎ (k < n) → (k < n → Is (m k) → minFrom d n m f ≤ f k) → min (minFrom d n m f) (cond (m n) (f n) d) ≤ f k
+      go (inl e) ih = let c = cond-in (m n) (f n) d (subst (λ (x : ℕ). Is (m x)) e h) in let q = ap f e in omega arith
+      go (inr q) ih = let i = ih q h in omega arith
+
+  pub min-ge : (n v : ℕ) → v ≤ d → ((k : ℕ) → k < n → Is (m k) → v ≤ f k) → v ≤ minFrom d n m f
+  unfolding over
+  min-ge zero v b h = b
+  min-ge (suc n) v b h =
+      let i = min-ge n v b (λ k l. h k (omega arith)) in
+      let c = cond-ge (m n) (f n) d v (h n (le-refl (suc n))) b in
+      omega arith
+
+  pub min-top : (n : ℕ) → min (minFrom d n m f) d ≡ minFrom d n m f
+  unfolding over
+  min-top zero = omega arith
+  min-top (suc n) = let i = min-top n in omega arith
+
+-- where m has a row, the least does not depend on where it starts
+pub min-start : (d d′ n : ℕ) (m : Mask) (f : ℕ → ℕ) (k : ℕ) → k < n → Is (m k) → f k ≤ d → f k ≤ d′ → minFrom d n m f ≡ minFrom d′ n m f
+min-start d d′ n m f k l h p q = le-antisymm (half d d′ q) (half d′ d p)
+  where
+    half : (x y : ℕ) → f k ≤ y → minFrom x n m f ≤ minFrom y n m f
+    half x y b = min-ge y m f n (minFrom x n m f) (le-trans (min-le x m f n k l h) b) (min-le x m f n)
+
+-- as code takes it, from any top that no number passes
+pub min-over : (top n : ℕ) (m : Mask) (f : ℕ → ℕ) (k : ℕ) → k < n → Is (m k) → ((i : ℕ) → i < n → f i ≤ top) → minFrom top n m f ≡ minOver n m f
+min-over top n m f k l h b = min-start top (maxOver n m f) n m f k l h (b k l) (max-ge n m f k l h)
+
+-- ---- what a row above adds
+
+-- it grows with w, with its C and J, and falls with its T
+pub load-mono : (C T J C′ T′ J′ : ℕ → ℕ) (w w′ k : ℕ) → 0 < T k → w′ ≤ w → C′ k ≤ C k → T k ≤ T′ k → J′ k ≤ J k → load C′ T′ J′ w′ k ≤ load C T J w k
+unfolding load
+load-mono C T J C′ T′ J′ w w′ k p hw hC hT hJ =
+    mul-le-mul hC (le-trans (ceil-anti (w′ + J′ k + 1) p hT) (ceil-mono (T k) (omega arith)))
+
+pub load-grows : (C T J : ℕ → ℕ) (w w′ k : ℕ) → w′ ≤ w → load C T J w′ k ≤ load C T J w k
+unfolding load
+load-grows C T J w w′ k hw = mul-le-mul (le-refl (C k)) (ceil-mono (T k) (omega arith))
+
+-- it is at least C
+pub load-once : (C T J : ℕ → ℕ) (w k : ℕ) → 0 < T k → C k ≤ load C T J w k
+unfolding load
+load-once C T J w k p = le-trans (le-of-eq (sym (mul-one (C k)))) (mul-le-mul (le-refl (C k)) (ceil-pos (w + J k + 1) (T k) (omega arith) p))
+
+pub load-bound : (C T J : ℕ → ℕ) (w k c v : ℕ) → 0 < T k → C k ≤ c → w + J k + 1 ≤ v → load C T J w k ≤ c * v
+unfolding load
+load-bound C T J w k c v p hc hv = mul-le-mul hc (le-trans (ceil-bound (w + J k + 1) (T k) p) hv)
+
+pub load-same : (C T J C′ T′ J′ : ℕ → ℕ) (w k k′ : ℕ) → C k ≡ C′ k′ → T k ≡ T′ k′ → J k ≡ J′ k′ → load C T J w k ≡ load C′ T′ J′ w k′
+unfolding load
+load-same C T J C′ T′ J′ w k k′ c t j = cc
+
+-- ---- F
+
+-- F is monotone
+pub demand-grows : (n : ℕ) (C T J : ℕ → ℕ) (base : ℕ) (above : Mask) (a b : ℕ) → a ≤ b → demand n C T J base above a ≤ demand n C T J base above b
+unfolding demand
+demand-grows n C T J base above a b h =
+    omega (arith, sum-mono n above above (load C T J a) (load C T J b) (λ k _ t. t) (λ k _ _. load-grows C T J b a k h))
+
+-- F is monotone in the constant part, in the rows above and in their C and J, and antitone in their T
+pub demand-le : (n : ℕ) (C T J C′ T′ J′ : ℕ → ℕ) (base base′ : ℕ) (above above′ : Mask) → base′ ≤ base
+    → ((k : ℕ) → k < n → Is (above′ k) → Is (above k)) → ((k : ℕ) → k < n → Is (above′ k) → (0 < T k) × (C′ k ≤ C k) × (T k ≤ T′ k) × (J′ k ≤ J k))
+    → (w : ℕ) → demand n C′ T′ J′ base′ above′ w ≤ demand n C T J base above w
+unfolding demand
+demand-le n C T J C′ T′ J′ base base′ above above′ hb s h w =
+    omega (
+      arith,
+      sum-mono n above′ above (load C′ T′ J′ w) (load C T J w) s
+          (λ k l t. let q = h k l t in load-mono C T J C′ T′ J′ w w k (q .0) (le-refl w) (q .1) (q .2) (q .3)),
+    )
+
+-- F looks only at the rows below n
+pub demand-same : (n : ℕ) (C T J C′ T′ J′ : ℕ → ℕ) (base base′ : ℕ) (above above′ : Mask) → base ≡ base′ → ((k : ℕ) → k < n → above k ≡ above′ k)
+    → ((k : ℕ) → k < n → (C k ≡ C′ k) × (T k ≡ T′ k) × (J k ≡ J′ k)) → (w : ℕ) → demand n C T J base above w ≡ demand n C′ T′ J′ base′ above′ w
+unfolding demand
+demand-same n C T J C′ T′ J′ base base′ above above′ hb ha h w =
+    cc (hb, over-same _+_ 0 n above above′ (load C T J w) (load C′ T′ J′ w) ha (λ k l. let q = h k l in load-same C T J C′ T′ J′ w k k (q .0) (q .1) (q .2)))
+
+-- F is never below its constant part
+pub demand-base : (n : ℕ) (C T J : ℕ → ℕ) (base : ℕ) (above : Mask) (w : ℕ) → base ≤ demand n C T J base above w
+unfolding demand
+demand-base n C T J base above w = omega arith
+
+-- F row by row
+module _ (C T J : ℕ → ℕ) (base : ℕ) (above : Mask) (w : ℕ) where
+  pub demand-none : demand 0 C T J base above w ≡ base
+  unfolding demand over
+  demand-none = omega arith
+
+  pub demand-turn : (k : ℕ) {x y : ℕ} → above k ≡ true → x ≡ demand k C T J base above w → y ≡ x + load C T J w k → y ≡ demand (k + 1) C T J base above w
+  unfolding demand
+  demand-turn k {x} {y} t e h = omega (arith, turn-in _+_ 0 k above (load C T J w) {x = sumOver k above (load C T J w)} {y = sumOver k above (load C T J w) + load C T J w k} t refl refl)
+
+  -- some of the rows ask no more than all
+  pub demand-part : (k n : ℕ) → k ≤ n → demand k C T J base above w ≤ demand n C T J base above w
+  unfolding demand over
+  demand-part zero zero l = le-refl _
+  demand-part (suc k) zero l = absurd (omega arith)
+  demand-part k (suc n) l = go (eq-or-lt-of-le l) (demand-part k n)
+    where
+      go : (k ≡ suc n) ⊎ (k < suc n) → (k ≤ n → demand k C T J base above w ≤ demand n C T J base above w) → demand k C T J base above w ≤ demand (suc n) C T J base above w
+      go (inl e) ih = rw e (le-refl _)
+      go (inr q) ih = let i = ih (omega arith) in omega arith

@@ -1,0 +1,9 @@
+pub mod Masks
+pub mod MaskLaws
+pub mod Sums
+pub mod Quotient
+pub mod Laws
+pub mod Move
+pub mod Least
+pub mod Climb
+pub mod Columns

@@ -1,0 +1,39 @@
+-- Sets of rows as tests on row numbers, and the two questions that are asked of a test: does any number below n pass it, and which is
+-- the lowest? Definitions only; their laws are in MaskLaws.
+-- Assumes nothing.
+use Prim.Native.Nat.{ℕ, zero, suc}
+use mathlib.Core.Bool.{Bool, true, false, not, _&&_, _||_}
+
+-- a set of rows: those at which it is true
+abbrev pub Mask : Type 0
+Mask = ℕ → Bool
+
+-- all rows
+abbrev pub every : Mask
+every k = true
+
+-- the rows of m that are not in o
+abbrev pub except : Mask → Mask → Mask
+except m o k = m k && not (o k)
+
+-- does some number below n pass the test?
+unfoldable pub anyBelow : ℕ → Mask → Bool
+anyBelow zero p = false
+anyBelow (suc n) p = anyBelow n p || p n
+
+-- a place, or that there is none
+pub data Place : Type 0 where
+  at : ℕ → Place
+  nowhere : Place
+
+-- a place found, else n if the test holds there
+unfoldable pub orElse : Place → Bool → ℕ → Place
+orElse (at k) b n = at k
+orElse nowhere true n = at n
+orElse nowhere false n = nowhere
+
+-- the lowest number below n that passes the test
+unfoldable pub lowest : ℕ → Mask → Place
+unfolding orElse
+lowest zero p = nowhere
+lowest (suc n) p = orElse (lowest n p) (p n) n

@@ -1,0 +1,103 @@
+//! The second program: a judge of priority orders, written from document 01 alone.
+//!
+//! It is there to be compared with the proved library, in what it answers and in how long it
+//! takes, so it shares nothing with it: no code, no contract, not even a table of limits.
+
+mod order;
+mod row;
+mod sums;
+
+use row::{Row, FIELDS};
+
+/// A table has at most this many rows.
+const MAX_ROWS: usize = 64;
+
+/// What the desk replies when asked to judge. Rows and places count from 0, fields from 1.
+#[derive(Debug, Clone, Copy, PartialEq, Eq)]
+pub enum Reply {
+    /// Every band passes.
+    Passed,
+    /// Some band is late; carries the first late place in the order.
+    Late(u32),
+    /// 1: no words, or not a multiple of six.
+    Ragged,
+    /// 2: more than 64 rows.
+    TooMany,
+    /// 3: the lowest bad row, and its lowest bad field.
+    BadRow {
+        /// The row, from 0.
+        row: u32,
+        /// The field, from 1.
+        field: u32,
+    },
+    /// 4: the lent list is shorter than the table.
+    NoRoom,
+    /// 5: the order has not one entry for each row.
+    OrderLength,
+    /// 6: the first place whose entry is out of range or a repeat.
+    OrderEntry(u32),
+    /// 7: the first place that resumes a FIFO already left.
+    SplitQueue(u32),
+}
+
+/// Judges `order` over `table`; the figure of row i goes to place i of `figures`, 0 if it is late.
+///
+/// A refusal alters no word of `figures`, and places past the last row are never written.
+pub fn judge(table: &[u32], order: &[u32], figures: &mut [u32]) -> Reply {
+    answer(table, order, figures).unwrap_or_else(|refusal| refusal)
+}
+
+/// The answer (passed or late), or else the first refusal of 1 to 7 that is due.
+fn answer(table: &[u32], order: &[u32], figures: &mut [u32]) -> Result<Reply, Reply> {
+    let mut rows = [Row::NONE; MAX_ROWS];
+    let rows = read_table(table, &mut rows)?;
+    if figures.len() < rows.len() {
+        return Err(Reply::NoRoom);
+    }
+    let mut placed = [Row::NONE; MAX_ROWS];
+    let placed = place_rows(rows, order, &mut placed)?;
+    Ok(match sums::write_figures(placed, order, figures) {
+        None => Reply::Passed,
+        Some(place) => Reply::Late(number(place)),
+    })
+}
+
+/// The rows of the table by row number, or refusal 1, 2 or 3.
+fn read_table<'a>(table: &[u32], rows: &'a mut [Row; MAX_ROWS]) -> Result<&'a [Row], Reply> {
+    let (words, rest) = table.as_chunks::<FIELDS>();
+    if words.is_empty() || !rest.is_empty() {
+        return Err(Reply::Ragged);
+    }
+    let rows = rows.get_mut(..words.len()).ok_or(Reply::TooMany)?;
+    for (at, (row, words)) in rows.iter_mut().zip(words).enumerate() {
+        *row = Row::read(words).map_err(|field| Reply::BadRow { row: number(at), field })?;
+    }
+    Ok(rows)
+}
+
+/// The rows by place, highest priority first, or refusal 5, 6 or 7.
+fn place_rows<'a>(
+    rows: &[Row],
+    order: &[u32],
+    placed: &'a mut [Row; MAX_ROWS],
+) -> Result<&'a [Row], Reply> {
+    if order.len() != rows.len() {
+        return Err(Reply::OrderLength);
+    }
+    if let Some(place) = order::first_bad_entry(order) {
+        return Err(Reply::OrderEntry(number(place)));
+    }
+    let placed = &mut placed[..rows.len()];
+    for (place, &row) in placed.iter_mut().zip(order) {
+        *place = rows[row as usize];
+    }
+    match order::first_resumed(placed) {
+        None => Ok(placed),
+        Some(place) => Err(Reply::SplitQueue(number(place))),
+    }
+}
+
+/// A row number or place as it is carried; both are below `MAX_ROWS`.
+fn number(at: usize) -> u32 {
+    at as u32
+}

@@ -1,0 +1,94 @@
+//! A seeded maker of judging inputs: tables and orders that are good, and ones that are damaged
+//! so that each refusal of document 01 comes up. It knows the limits of the fields; it judges
+//! nothing.
+
+mod damage;
+mod extremes;
+mod fields;
+mod orders;
+mod plans;
+mod prng;
+mod speed;
+mod style;
+
+use std::fmt;
+
+pub use fields::{boundary_rows, Row};
+pub use prng::Prng;
+pub use speed::{families, Family};
+
+/// Of a hundred cases, how many are damaged.
+const DAMAGED: u32 = 45;
+/// Set in every lent word beforehand: no figure has it, so a word left alone can be told.
+const CANARY: u32 = 1 << 31;
+
+/// One input for a judge.
+#[derive(Debug, Clone, PartialEq, Eq)]
+pub struct Case {
+    /// The seed it was made from.
+    pub seed: u64,
+    /// The words of the table.
+    pub table: Vec<u32>,
+    /// The order.
+    pub order: Vec<u32>,
+    /// The list lent for figures, with what it holds beforehand.
+    pub figures: Vec<u32>,
+}
+
+/// The case of this seed.
+pub fn case(seed: u64) -> Case {
+    let mut prng = Prng::new(seed);
+    let plan = plans::any(&mut prng);
+    let spare = match prng.below(10) {
+        0..=3 => 0,
+        4..=7 => prng.below(8),
+        _ => prng.below(100),
+    };
+    let mut case = Case::of(seed, &plan.rows, plan.order, spare, &mut prng);
+    if prng.chance(DAMAGED) {
+        damage::damage(&mut case, &mut prng);
+    }
+    case
+}
+
+impl Case {
+    /// These rows in this order, with a lent list of `spare` places more than there are rows.
+    fn of(seed: u64, rows: &[Row], order: Vec<u32>, spare: usize, prng: &mut Prng) -> Case {
+        let figures = lent(rows.len() + spare, prng);
+        Case { seed, table: rows.concat(), order, figures }
+    }
+
+    /// One boundary row, judged alone; its lent list has one place to spare.
+    pub fn of_one_row(row: Row) -> Case {
+        Case::of(0, &[row], vec![0], 1, &mut Prng::new(0))
+    }
+
+    /// The same case with each deadline cut to what is just enough for these figures, and that
+    /// of `late_row`, if there is one, to one bit time less.
+    ///
+    /// For a case that passes with these figures: the new one passes with the same ones, except
+    /// that the band of `late_row` is late.
+    pub fn tightened(&self, figures: &[u32], late_row: Option<usize>) -> Case {
+        let mut tight = self.clone();
+        for (at, (row, figure)) in tight.table.chunks_exact_mut(6).zip(figures).enumerate() {
+            row[4] = row[5] + figure - u32::from(late_row == Some(at));
+        }
+        tight
+    }
+}
+
+/// A lent list of so many words, each of them made up and above any figure.
+fn lent(words: usize, prng: &mut Prng) -> Vec<u32> {
+    (0..words).map(|_| prng.word() as u32 | CANARY).collect()
+}
+
+impl fmt::Display for Case {
+    fn fmt(&self, f: &mut fmt::Formatter) -> fmt::Result {
+        writeln!(f, "seed {}, a table of {} words:", self.seed, self.table.len())?;
+        for (row, words) in self.table.chunks(6).enumerate() {
+            writeln!(f, "  row {row}: {words:?}")?;
+        }
+        writeln!(f, "an order of {} entries: {:?}", self.order.len(), self.order)?;
+        write!(f, "a lent list of {} words: {:08x?}", self.figures.len(), self.figures)
+    }
+}

@@ -1,0 +1,57 @@
+//! The C boundary: the one module with `unsafe`, because the library is called as C.
+#![allow(unsafe_code)]
+
+/// The library's reply: its number, then what it carries, 0 where there is less.
+#[repr(C)]
+pub(crate) struct Reply {
+    pub(crate) number: u32,
+    pub(crate) first: u32,
+    pub(crate) second: u32,
+}
+
+unsafe extern "C" {
+    fn telhavina_judge(
+        table: *const u32,
+        table_len: usize,
+        order: *const u32,
+        order_len: usize,
+        figures: *mut u32,
+        figures_len: usize,
+    ) -> Reply;
+}
+
+/// The library's reply on this table and order; `figures` is lent to it for the call.
+pub(crate) fn judge(table: &[u32], order: &[u32], figures: &mut [u32]) -> Reply {
+    // SAFETY: each pointer and length come from one slice, so the words are there, aligned and
+    // readable, and those of `figures` writable and shared with neither of the others. The
+    // library checks lengths before words, looks at no word past a length and so at none of an
+    // empty slice, and keeps no pointer after it returns.
+    unsafe {
+        telhavina_judge(
+            table.as_ptr(),
+            table.len(),
+            order.as_ptr(),
+            order.len(),
+            figures.as_mut_ptr(),
+            figures.len(),
+        )
+    }
+}
+
+#[cfg(test)]
+mod tests {
+    // The C interface: a place of the reply that carries nothing is 0.
+    #[test]
+    fn what_is_not_carried_is_0() {
+        for mut case in (0..20_000).map(tables::case) {
+            let reply = super::judge(&case.table, &case.order, &mut case.figures);
+            let carried = match reply.number {
+                3 => 2,
+                6 | 7 | 101 => 1,
+                _ => 0,
+            };
+            assert!(carried >= 1 || reply.first == 0, "{case}");
+            assert!(carried == 2 || reply.second == 0, "{case}");
+        }
+    }
+}

@@ -1,0 +1,87 @@
+//! Judges the priority order of a table of CAN messages.
+//!
+//! Given which messages a bus has to carry and in which order of priority, [`judge`] says for
+//! each message the longest time it can take from being queued to being wholly sent, or that no
+//! such time within its deadline can be promised. The sums are those of a proved library, linked
+//! in statically; this crate adds safe types and nothing else. All times are whole bit times.
+//!
+//! # The table
+//!
+//! Six words a row, 1 to 64 rows, rows numbered from 0:
+//!
+//! | Field | Meaning | Allowed |
+//! |---|---|---|
+//! | 1 | queue | 0 = priority; 1 to 64 = FIFO of that number |
+//! | 2 | form of length | 0 = bit times; 1 = bytes, 11-bit identifier; 2 = bytes, 29-bit identifier |
+//! | 3 | size | form 0: 1 to 4,096; forms 1 and 2: 0 to 8 |
+//! | 4 | period T | 1 to 1,000,000 |
+//! | 5 | deadline D | 1 to T |
+//! | 6 | jitter J | 0 to D |
+//!
+//! # The order and the figures
+//!
+//! The order lists all row numbers, highest priority first, and keeps the rows of each FIFO
+//! together. The caller lends a list for the figures with a place for each row, or more: the
+//! figure of row i comes to place i, whatever the order, and places past the last row are not
+//! written. A refusal alters no place at all.
+//!
+//! ```
+//! use telhavina::{judge, Judgement, Refusal};
+//!
+//! let table = [
+//!     1, 0, 100, 1000, 1000, 0, // row 0, in FIFO 1
+//!     1, 0, 60, 1000, 600, 0, // row 1, in FIFO 1 too
+//!     0, 0, 80, 500, 500, 0, // row 2, a priority row
+//! ];
+//! let mut figures = [0; 3];
+//! assert_eq!(judge(&table, &[2, 0, 1], &mut figures), Judgement::Passed);
+//! assert_eq!(figures, [340, 340, 180]);
+//!
+//! // The priority row must not come between the rows of the FIFO.
+//! let split = Refusal::SplitQueue { place: 2 };
+//! assert_eq!(judge(&table, &[0, 2, 1], &mut figures), Judgement::Refused(split));
+//! assert_eq!(figures, [340, 340, 180]);
+//! ```
+//!
+//! # Building
+//!
+//! The build links `libtelhavina.a`, made by `rt staticlib telhavina` at the project's root and
+//! looked for in `target/staticlib` there, or in the directory whose absolute path is in the
+//! environment variable `TELHAVINA_LIB_DIR`.
+
+mod ffi;
+mod refusal;
+
+pub use refusal::Refusal;
+
+const PASSED: u32 = 100;
+const LATE: u32 = 101;
+
+/// What is said of an order.
+#[derive(Debug, Clone, Copy, PartialEq, Eq)]
+#[must_use]
+pub enum Judgement {
+    /// Every row has its figure, no more than its deadline less its jitter (for a FIFO row, the
+    /// least such time in its queue).
+    Passed,
+    /// Some rows are late: their figures are 0, those of the others stand.
+    Late {
+        /// The first late place in the order (a place, not a row).
+        place: usize,
+    },
+    /// The question could not be taken; no figure was written.
+    Refused(Refusal),
+}
+
+/// Judges `order` over `table` and writes the figure of row i to place i of `figures`.
+///
+/// Any input is answered: nothing need be checked beforehand. Where several refusals are due, the
+/// one with the least number is given.
+pub fn judge(table: &[u32], order: &[u32], figures: &mut [u32]) -> Judgement {
+    let reply = ffi::judge(table, order, figures);
+    match reply.number {
+        PASSED => Judgement::Passed,
+        LATE => Judgement::Late { place: reply.first as usize },
+        number => Judgement::Refused(Refusal::of(number, reply.first, reply.second)),
+    }
+}

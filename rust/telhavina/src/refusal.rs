@@ -1,0 +1,87 @@
+//! The refusals, with their numbers and in words.
+
+use std::error::Error;
+use std::fmt;
+
+/// Why a question could not be taken. Rows and places count from 0, fields from 1.
+#[derive(Debug, Clone, Copy, PartialEq, Eq)]
+pub enum Refusal {
+    /// 1: the table has no words, or not a multiple of six.
+    Ragged,
+    /// 2: the table has more than 64 rows.
+    TooMany,
+    /// 3: a word of the table is not allowed in its field.
+    BadRow {
+        /// The lowest bad row.
+        row: usize,
+        /// Its lowest bad field, 1 to 6.
+        field: usize,
+    },
+    /// 4: the list lent for figures is shorter than the table has rows.
+    NoRoom,
+    /// 5: the order has not as many entries as the table has rows.
+    OrderLength,
+    /// 6: an entry of the order is no row of the table, or repeats an earlier one.
+    OrderEntry {
+        /// The first such place in the order.
+        place: usize,
+    },
+    /// 7: the order comes back to a FIFO that it had left.
+    SplitQueue {
+        /// The first place that does.
+        place: usize,
+    },
+}
+
+impl Refusal {
+    /// The refusal with this number that carries these.
+    pub(crate) fn of(number: u32, first: u32, second: u32) -> Refusal {
+        let (first, second) = (first as usize, second as usize);
+        match number {
+            1 => Refusal::Ragged,
+            2 => Refusal::TooMany,
+            3 => Refusal::BadRow { row: first, field: second },
+            4 => Refusal::NoRoom,
+            5 => Refusal::OrderLength,
+            6 => Refusal::OrderEntry { place: first },
+            7 => Refusal::SplitQueue { place: first },
+            _ => unreachable!("the library replied {number}, which is no reply of a judge"),
+        }
+    }
+
+    /// Its number in the desk's list.
+    pub fn number(&self) -> u32 {
+        match self {
+            Refusal::Ragged => 1,
+            Refusal::TooMany => 2,
+            Refusal::BadRow { .. } => 3,
+            Refusal::NoRoom => 4,
+            Refusal::OrderLength => 5,
+            Refusal::OrderEntry { .. } => 6,
+            Refusal::SplitQueue { .. } => 7,
+        }
+    }
+}
+
+impl fmt::Display for Refusal {
+    fn fmt(&self, f: &mut fmt::Formatter) -> fmt::Result {
+        write!(f, "Refusal {}: ", self.number())?;
+        match self {
+            Refusal::Ragged => write!(f, "the table has no words, or not a multiple of six."),
+            Refusal::TooMany => write!(f, "the table has more than 64 rows."),
+            Refusal::BadRow { row, field } => {
+                write!(f, "field {field} of row {row} of the table is not allowed.")
+            }
+            Refusal::NoRoom => write!(f, "the list lent for figures has no place for every row."),
+            Refusal::OrderLength => write!(f, "the order has not one entry for each row."),
+            Refusal::OrderEntry { place } => {
+                write!(f, "place {place} of the order holds no row of the table, or one repeated.")
+            }
+            Refusal::SplitQueue { place } => {
+                write!(f, "place {place} of the order resumes a FIFO that was already left.")
+            }
+        }
+    }
+}
+
+impl Error for Refusal {}

@@ -1,0 +1,170 @@
+//! 'Sums done by hand' of document 01, put to the library across the C boundary. Every word of
+//! the lent list is looked at, those past the last row too.
+
+use telhavina::{judge, Judgement, Refusal};
+
+use Judgement::{Late, Passed, Refused};
+
+/// What a lent word holds before the call; no figure is as great.
+const LENT: u32 = 0xC0DE_C0DE;
+/// Places in the lent list past those that the rows need.
+const SPARE: usize = 3;
+
+/// A row as document 01 writes it: (queue, C, T, D, J), form 0.
+type Short = (u32, u32, u32, u32, u32);
+
+const A: [Short; 4] = [
+    (0, 125, 1000, 750, 0),
+    (0, 125, 1000, 350, 0),
+    (0, 125, 1000, 750, 0),
+    (0, 75, 1000, 1000, 0),
+];
+const C: [Short; 3] = [(1, 100, 1000, 1000, 0), (1, 60, 1000, 600, 0), (0, 80, 500, 500, 0)];
+const F: [Short; 2] = [(0, 10, 30, 30, 0), (0, 20, 100, 100, 0)];
+/// A good row, for tables where something else is wrong.
+const GOOD: [u32; 6] = [0, 0, 10, 100, 100, 0];
+
+fn words(rows: &[Short]) -> Vec<u32> {
+    rows.iter().flat_map(|&(queue, c, t, d, j)| [queue, 0, c, t, d, j]).collect()
+}
+
+/// The order is answered so, with these figures by row, and no place past them is written.
+#[track_caller]
+fn answers(table: &[u32], order: &[u32], judgement: Judgement, figures: &[u32]) {
+    let mut lent = vec![LENT; figures.len() + SPARE];
+    assert_eq!(judge(table, order, &mut lent), judgement);
+    assert_eq!(lent, [figures, &[LENT; SPARE]].concat());
+}
+
+/// The question is refused so with a lent list of so many words, and none of them is altered.
+#[track_caller]
+fn refuses(table: &[u32], order: &[u32], room: usize, refusal: Refusal) {
+    let mut lent = vec![LENT; room];
+    assert_eq!(judge(table, order, &mut lent), Refused(refusal));
+    assert_eq!(lent, vec![LENT; room]);
+}
+
+// Document 01, case a: 'passed; figures by row 450, 325, 575, 200'.
+#[test]
+fn a_four_priority_rows() {
+    answers(&words(&A), &[3, 1, 0, 2], Passed, &[450, 325, 575, 200]);
+}
+
+// Document 01, case b, its judging half: 'Judged, it gives 575, 325, 450, 200'.
+#[test]
+fn b_the_order_found_for_a() {
+    answers(&words(&A), &[3, 1, 2, 0], Passed, &[575, 325, 450, 200]);
+}
+
+// Document 01, case c: 'Order 2 0 1: 340, 340, 180'.
+#[test]
+fn c_fifo_below_a_priority_row() {
+    answers(&words(&C), &[2, 0, 1], Passed, &[340, 340, 180]);
+}
+
+// Document 01, case c with the FIFO's rows the other way round: they are one band all the same.
+#[test]
+fn c_rows_of_a_fifo_in_any_order() {
+    answers(&words(&C), &[2, 1, 0], Passed, &[340, 340, 180]);
+}
+
+// Document 01, case d: 'Same, order 0 1 2: 260, 260, 320'.
+#[test]
+fn d_fifo_above_a_priority_row() {
+    answers(&words(&C), &[0, 1, 2], Passed, &[260, 260, 320]);
+}
+
+// Document 01, case e: 'Same, order 0 2 1: refusal 7, position 2'.
+#[test]
+fn e_split_fifo() {
+    refuses(&words(&C), &[0, 2, 1], 3 + SPARE, Refusal::SplitQueue { place: 2 });
+}
+
+// Document 01, case f: 'order 0 1: 30, 60'. B alone, a dropped + 1, or the rows judged one by one
+// would give row 1 another figure.
+#[test]
+fn f_the_one_bit_time_of_the_source() {
+    answers(&words(&F), &[0, 1], Passed, &[30, 60]);
+}
+
+// Document 01, case g: 'As f with the first deadline 29: late, position 0; figures 0, 60'.
+#[test]
+fn g_late_above_a_row_that_passes() {
+    answers(&words(&[(0, 10, 30, 29, 0), F[1]]), &[0, 1], Late { place: 0 }, &[0, 60]);
+}
+
+// Document 01, reply table: late carries a position in the order. With the rows of g the other
+// way round in the table it is still 0, though the late row is 1.
+#[test]
+fn g_late_carries_a_place_and_not_a_row() {
+    answers(&words(&[F[1], (0, 10, 30, 29, 0)]), &[1, 0], Late { place: 0 }, &[60, 0]);
+}
+
+// Document 01, case h: 'One row (0,55,110,110,0): 110'.
+#[test]
+fn h_one_row_behind_its_predecessor() {
+    answers(&words(&[(0, 55, 110, 110, 0)]), &[0], Passed, &[110]);
+}
+
+// Document 01, case h: 'With deadline 109: late, 0'.
+#[test]
+fn h_one_bit_time_too_late() {
+    answers(&words(&[(0, 55, 110, 109, 0)]), &[0], Late { place: 0 }, &[0]);
+}
+
+// Document 01, case j: 'One row (0,10,100,50,50): late, position 0; figure 0'.
+#[test]
+fn j_jitter_takes_the_whole_deadline() {
+    answers(&words(&[(0, 10, 100, 50, 50)]), &[0], Late { place: 0 }, &[0]);
+}
+
+// Document 01, case k: 'Forms 1 and 2 with 0 bytes: 53 and 77; with 8 bytes: 130 and 154'. These
+// are lengths C. A row alone has nothing above or below, so F(w) = max(0, C), w = C, and its
+// figure is w + C = 2C: twice the length, and just within a deadline of that.
+#[test]
+fn k_lengths_by_frame_format() {
+    for (form, bytes, c) in [(1, 0, 53), (2, 0, 77), (1, 8, 130), (2, 8, 154)] {
+        answers(&[0, form, bytes, 1000, 2 * c, 0], &[0], Passed, &[2 * c]);
+        answers(&[0, form, bytes, 1000, 2 * c - 1, 0], &[0], Late { place: 0 }, &[0]);
+    }
+}
+
+// Document 01, case l: 'No words: 1'. With empty slices throughout, and with room lent.
+#[test]
+fn l_no_words() {
+    refuses(&[], &[], 0, Refusal::Ragged);
+    refuses(&[], &[], SPARE, Refusal::Ragged);
+    refuses(&[], &[0], SPARE, Refusal::Ragged);
+}
+
+// Document 01, case l: 'Seven words: 1'.
+#[test]
+fn l_seven_words() {
+    refuses(&[0, 0, 10, 100, 100, 0, 0], &[0], SPARE, Refusal::Ragged);
+}
+
+// Document 01, case l: '65 rows: 2'; and 64 rows are not too many.
+#[test]
+fn l_too_many_rows() {
+    let order: Vec<u32> = (0..65).collect();
+    refuses(&GOOD.repeat(65), &order, 65 + SPARE, Refusal::TooMany);
+    // 64 rows of C 1 and nothing that comes twice: at place p, w = 1 + p and the figure is 2 + p.
+    let table = words(&[(0, 1, 1000, 1000, 0); 64]);
+    let figures: Vec<u32> = (0..64).map(|place| place + 2).collect();
+    answers(&table, &order[..64], Passed, &figures);
+}
+
+// Document 01, case l: 'Size 0 in form 0, or 9 in form 1: 3 with field 3'.
+#[test]
+fn l_sizes_out_of_range() {
+    let refusal = Refusal::BadRow { row: 0, field: 3 };
+    refuses(&[0, 0, 0, 1000, 1000, 0], &[0], 1 + SPARE, refusal);
+    refuses(&[0, 1, 9, 1000, 1000, 0], &[0], 1 + SPARE, refusal);
+}
+
+// Document 01, case l: 'T = 1,000,001: 3 with field 4'.
+#[test]
+fn l_period_out_of_range() {
+    let refusal = Refusal::BadRow { row: 0, field: 4 };
+    refuses(&[0, 0, 10, 1_000_001, 1000, 0], &[0], 1 + SPARE, refusal);
+}

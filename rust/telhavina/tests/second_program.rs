@@ -1,0 +1,121 @@
+//! The library against the second program, over made-up tables: the reply, what it carries, and
+//! every word of the lent list must be the same. `-- --nocapture` shows how often each reply
+//! kind came up.
+
+use std::collections::BTreeMap;
+
+use second::Reply;
+use tables::{boundary_rows, Case, Prng};
+use telhavina::{Judgement, Refusal};
+
+/// Made-up cases; their seeds are 0 to one less.
+const CASES: u64 = 100_000;
+/// How often each reply kind must come up at least.
+const LEAST: u32 = 100;
+/// Passed, late, and refusals 1 to 7.
+const KINDS: usize = 9;
+
+/// How often each reply kind came up.
+#[derive(Default)]
+struct Tally(BTreeMap<&'static str, u32>);
+
+impl Tally {
+    fn count(&mut self, reply: Reply) {
+        *self.0.entry(kind(reply)).or_default() += 1;
+    }
+
+    fn print(&self, what: &str) {
+        println!("{what}:");
+        for (kind, times) in &self.0 {
+            println!("  {kind:15} {times:6}");
+        }
+    }
+}
+
+fn kind(reply: Reply) -> &'static str {
+    match reply {
+        Reply::Passed => "passed",
+        Reply::Late(_) => "late",
+        Reply::Ragged => "1 ragged",
+        Reply::TooMany => "2 too many",
+        Reply::BadRow { .. } => "3 bad row",
+        Reply::NoRoom => "4 no room",
+        Reply::OrderLength => "5 order length",
+        Reply::OrderEntry(_) => "6 order entry",
+        Reply::SplitQueue(_) => "7 split queue",
+    }
+}
+
+/// The library's judgement as the second program would say it.
+fn as_reply(judgement: Judgement) -> Reply {
+    let number = |at: usize| u32::try_from(at).expect("rows, fields and places are small");
+    match judgement {
+        Judgement::Passed => Reply::Passed,
+        Judgement::Late { place } => Reply::Late(number(place)),
+        Judgement::Refused(refusal) => match refusal {
+            Refusal::Ragged => Reply::Ragged,
+            Refusal::TooMany => Reply::TooMany,
+            Refusal::BadRow { row, field } => {
+                Reply::BadRow { row: number(row), field: number(field) }
+            }
+            Refusal::NoRoom => Reply::NoRoom,
+            Refusal::OrderLength => Reply::OrderLength,
+            Refusal::OrderEntry { place } => Reply::OrderEntry(number(place)),
+            Refusal::SplitQueue { place } => Reply::SplitQueue(number(place)),
+        },
+    }
+}
+
+/// Both programs give the same reply and leave the same lent list: these are given back.
+#[track_caller]
+fn agreed(case: &Case) -> (Reply, Vec<u32>) {
+    let (mut figures, mut expected) = (case.figures.clone(), case.figures.clone());
+    let reply = as_reply(telhavina::judge(&case.table, &case.order, &mut figures));
+    let expected_reply = second::judge(&case.table, &case.order, &mut expected);
+    assert!(
+        reply == expected_reply && figures == expected,
+        "{case}\nthe library: {reply:?}\n  {figures:?}\nthe second program: {expected_reply:?}\n  {expected:?}"
+    );
+    (reply, figures)
+}
+
+#[test]
+fn made_up_tables() {
+    let mut tally = Tally::default();
+    for case in (0..CASES).map(tables::case) {
+        tally.count(agreed(&case).0);
+    }
+    tally.print("made-up tables");
+    assert_eq!(tally.0.len(), KINDS, "some reply kind never came up");
+    assert!(tally.0.values().all(|&times| times >= LEAST), "some reply kind was rare");
+}
+
+// 'R no more than the least E': deadlines that are just enough for the figures pass, and one bit
+// time less in one row makes its band late.
+#[test]
+fn deadlines_just_enough_and_one_bit_time_less() {
+    let mut tally = Tally::default();
+    for case in (0..CASES).map(tables::case) {
+        let mut figures = case.figures.clone();
+        if second::judge(&case.table, &case.order, &mut figures) != Reply::Passed {
+            continue;
+        }
+        let just_enough = agreed(&case.tightened(&figures, None));
+        let late_row = Prng::new(case.seed).below(case.order.len());
+        let one_less = agreed(&case.tightened(&figures, Some(late_row)));
+        assert_eq!(just_enough, (Reply::Passed, figures), "{case}");
+        assert_eq!(one_less.1[late_row], 0, "{case}");
+        tally.count(just_enough.0);
+        tally.count(one_less.0);
+    }
+    tally.print("deadlines just enough and one bit time less");
+}
+
+#[test]
+fn every_boundary_of_every_field() {
+    let mut tally = Tally::default();
+    for row in boundary_rows() {
+        tally.count(agreed(&Case::of_one_row(row)).0);
+    }
+    tally.print("rows at the ends of their fields");
+}
