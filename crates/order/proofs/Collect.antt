@@ -6,29 +6,12 @@ use mathlib.Core.List.{List}
 use mathlib.Core.Bool.{Bool, true, false, cond}
 use lib.ListN.{length, set, length-set}
 use lib.Seq.{getD-set-same, getD-set-other}
-use borrow.Author.Count.{below-more}
 use Rattle.sums.specs.Masks.{Mask, every}
 use Rattle.sums.specs.Sums.{sumOver, load}
 use Rattle.sums.specs.Laws.{over-same, over-none, over-next, load-same}
 use Rattle.sums.specs.Columns.{Columns, at}
+use Rattle.sums.specs.ColumnLaws.{set-below, columns-less}
 use Rattle.order.specs.Sheet.{Gathered}
-
--- what holds at each place below g and of a new number holds below g + 1 once it is written at g
-set-next : (P : ℕ → Type 0) (l : List ℕ) (g v : ℕ) → g < length l → ((k : ℕ) → k < g → P (at l k)) → P v → (k : ℕ) → k < g + 1 → P (at (set l g v) k)
-set-next P l g v h p q =
-    below-more (λ (k : ℕ). P (at (set l g v) k)) g (λ k i. subst P (sym (getD-set-other l g k v 0 (λ e. omega arith))) (p k i)) (subst P (sym (getD-set-same l g v 0 h)) q)
-
-columns-less : {i g : ℕ} {c t j : List ℕ} → i ≤ g → Columns g c t j → Columns i c t j
-columns-less l h =
-    record {
-      long-c = omega (arith, h .long-c);
-      long-t = omega (arith, h .long-t);
-      long-j = omega (arith, h .long-j);
-      c-most = λ k b. h .c-most k (omega arith);
-      t-least = λ k b. h .t-least k (omega arith);
-      t-most = λ k b. h .t-most k (omega arith);
-      j-most = λ k b. h .j-most k (omega arith);
-    }
 
 module _ (C T J : ℕ → ℕ) (m : Mask) (k : ℕ) (c-most : C k ≤ 4096) (t-least : 1 ≤ T k) (t-most : T k ≤ 1000000) (j-most : J k ≤ 1000000) where
   module _ (g : ℕ) (gc gt gj : List ℕ) (hc : g < length gc) (ht : g < length gt) (hj : g < length gj) (h : Gathered C T J m k g gc gt gj) where
@@ -47,10 +30,10 @@ module _ (C T J : ℕ → ℕ) (m : Mask) (k : ℕ) (c-most : C k ≤ 4096) (t-l
           long-c = rw length-set (omega arith);
           long-t = rw length-set (omega arith);
           long-j = rw length-set (omega arith);
-          c-most = set-next (λ (x : ℕ). x ≤ 4096) gc g (C k) hc (h .rates .c-most) c-most;
-          t-least = set-next (λ (x : ℕ). 1 ≤ x) gt g (T k) ht (h .rates .t-least) t-least;
-          t-most = set-next (λ (x : ℕ). x ≤ 1000000) gt g (T k) ht (h .rates .t-most) t-most;
-          j-most = set-next (λ (x : ℕ). x ≤ 1000000) gj g (J k) hj (h .rates .j-most) j-most;
+          c-most = set-below (λ (i x : ℕ). x ≤ 4096) gc g (C k) hc (h .rates .c-most) c-most;
+          t-least = set-below (λ (i x : ℕ). 1 ≤ x) gt g (T k) ht (h .rates .t-least) t-least;
+          t-most = set-below (λ (i x : ℕ). x ≤ 1000000) gt g (T k) ht (h .rates .t-most) t-most;
+          j-most = set-below (λ (i x : ℕ). x ≤ 1000000) gj g (J k) hj (h .rates .j-most) j-most;
         }
 
     -- the first g places add what they added

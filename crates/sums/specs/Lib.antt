@@ -7,3 +7,4 @@ pub mod Move
 pub mod Least
 pub mod Climb
 pub mod Columns
+pub mod ColumnLaws

@@ -109,8 +109,15 @@ lowest-one n p (at k) nowhere (is-at l h m) (is-none h′) = absurd (h′ k l h)
 lowest-one n p nowhere (at j) (is-none h) (is-at l h′ m) = absurd (h j l h′)
 lowest-one n p nowhere nowhere (is-none h) (is-none h′) = refl
 
--- two tests that agree below n have one lowest place
-pub lowest-same : (n : ℕ) (p q : Mask) → ((k : ℕ) → k < n → p k ≡ q k) → lowest n p ≡ lowest n q
-unfolding lowest
-lowest-same zero p q h = refl
-lowest-same (suc n) p q h = cc (lowest-same n p q (λ k l. h k (omega arith)), h n (le-refl (suc n)))
+-- in the shape of a search: the place found, or none
+pub lowest-at : (n : ℕ) (p : Mask) (k : ℕ) → k < n → Is (p k) → ((j : ℕ) → j < k → Is (p j) → ⊥) → lowest n p ≡ at k
+lowest-at n p k l h m = lowest-one n p (lowest n p) (at k) (lowest-is n p) (is-at l h m)
+
+pub lowest-none : (n : ℕ) (p : Mask) → ((j : ℕ) → j < n → Is (p j) → ⊥) → lowest n p ≡ nowhere
+lowest-none n p h = lowest-one n p (lowest n p) nowhere (lowest-is n p) (is-none h)
+
+pub none-lowest : (n : ℕ) (p : Mask) → lowest n p ≡ nowhere → (j : ℕ) → j < n → Is (p j) → ⊥
+none-lowest n p e = go (subst (Lowest n p) e (lowest-is n p))
+  where
+    go : Lowest n p nowhere → (j : ℕ) → j < n → Is (p j) → ⊥
+    go (is-none h) = h

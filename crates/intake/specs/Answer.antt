@@ -1,0 +1,47 @@
+-- What the desk replies, as document 01 numbers it, and checks that run one after the other. Definitions only.
+-- Assumes nothing.
+use Prim.Native.Nat.{ℕ}
+use mathlib.Core.Bool.{Bool, true, false}
+use Rattle.sums.specs.Masks.{Place, at, nowhere}
+use Rattle.intake.specs.declared.Refusal.{Refusal}
+use Rattle.intake.specs.declared.Refusal.the-variants.{Ragged, TooMany, BadRow, NoRoom, OrderLength, OrderEntry, SplitQueue}
+
+-- a reply's number and the numbers that it carries, in order, 0 where there are fewer
+pub record Answer : Type 0 where
+  pub number : ℕ
+  pub first : ℕ
+  pub second : ℕ
+
+abbrev pub answer : ℕ → ℕ → ℕ → Answer
+answer n a b = record { number = n; first = a; second = b }
+
+-- a refusal's number and what it carries
+abbrev pub refusalAnswer : Refusal → Answer
+refusalAnswer Ragged = answer 1 0 0
+refusalAnswer TooMany = answer 2 0 0
+refusalAnswer (BadRow row field) = answer 3 row field
+refusalAnswer NoRoom = answer 4 0 0
+refusalAnswer OrderLength = answer 5 0 0
+refusalAnswer (OrderEntry place) = answer 6 place 0
+refusalAnswer (SplitQueue place) = answer 7 place 0
+
+-- a check refuses, or goes on
+pub data Check : Type 0 where
+  refused : Answer → Check
+  fine : Check
+
+-- one check, and if it goes on the next
+infixr 20 _then_
+abbrev pub _then_ : Check → Check → Check
+refused a then next = refused a
+fine then next = next
+
+-- refuses where the test holds
+abbrev pub refuseIf : Bool → Answer → Check
+refuseIf true a = refused a
+refuseIf false a = fine
+
+-- refuses at the first offending place, if there is one
+abbrev pub refuseAt : Place → (ℕ → Answer) → Check
+refuseAt (at p) a = refused (a p)
+refuseAt nowhere a = fine

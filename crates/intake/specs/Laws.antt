@@ -1,0 +1,103 @@
+-- When each of the refusals 1 to 4 is given, and what a table that none refuses is known to be.
+-- Assumes nothing.
+use Prim.Native.Nat.{ℕ, _%_, _≤_, _<_}
+use native.Mathlib.Omega.{arith}
+use mathlib.Core.Path.{_≡_, refl, subst}
+use mathlib.Core.Bool.{Bool, true, false, not}
+use mathlib.Core.List.{List}
+use lib.ListN.{length}
+use lib.Dec.{T as Is, eqb, ltb}
+use borrow.Author.Tests.{lt-ltb, le-ltb, ltb-false, eq-eqb, ne-eqb, eqb-true}
+use Rattle.sums.specs.Masks.{Place, at, nowhere, lowest}
+use Rattle.sums.specs.MaskLaws.{none-lowest}
+use Rattle.licence.specs.Limit.{limit}
+use Rattle.licence.specs.Row.{badField}
+use Rattle.intake.specs.Words.{ragged, rows, badRow, tableOf}
+use Rattle.intake.specs.Answer.{answer, refusalAnswer, Answer, Check, refused, fine, refuseIf, refuseAt, _then_}
+use Rattle.intake.specs.Refusals.{tableRefusal}
+use Rattle.intake.specs.Holds.{Holds, RowsRead}
+use Rattle.intake.specs.declared.Refusal.{Refusal}
+use Rattle.intake.specs.declared.Intake.{Intake}
+use Rattle.intake.specs.declared.Intake.the-variants.{Rows, Refused}
+
+-- checks that go on were each fine
+pub then-fine : (a b : Check) → (a then b) ≡ fine → (a ≡ fine) × (b ≡ fine)
+then-fine (refused x) b e = absurd (let z : _≡_ {A = ℕ} 0 1 = cc in omega arith)
+then-fine fine b e = (refl, e)
+
+pub if-fine : (t : Bool) (a : Answer) → refuseIf t a ≡ fine → t ≡ false
+if-fine true a e = absurd (let z : _≡_ {A = ℕ} 0 1 = cc in omega arith)
+if-fine false a e = refl
+
+pub at-fine : (p : Place) (a : ℕ → Answer) → refuseAt p a ≡ fine → p ≡ nowhere
+at-fine (at k) a e = absurd (let z : _≡_ {A = ℕ} 0 1 = cc in omega arith)
+at-fine nowhere a e = refl
+
+module _ (words : List ℕ) where
+  pub no-words : length words ≡ 0 → ragged words ≡ true
+  unfolding ragged
+  no-words e = rw (eq-eqb (length words) 0 e)
+
+  pub not-by-six : (length words ≡ 0 → ⊥) → (length words % 6 ≡ 0 → ⊥) → ragged words ≡ true
+  unfolding ragged
+  not-by-six z e = rw (ne-eqb (length words) 0 z, ne-eqb (length words % 6) 0 e)
+
+  pub by-six : (length words ≡ 0 → ⊥) → length words % 6 ≡ 0 → ragged words ≡ false
+  unfolding ragged
+  by-six z e = rw (ne-eqb (length words) 0 z, eq-eqb (length words % 6) 0 e)
+
+module _ (words : List ℕ) (room : ℕ) where
+  pub refuse-1 : ragged words ≡ true → tableRefusal words room ≡ refused (answer 1 0 0)
+  unfolding tableRefusal
+  refuse-1 e = rw e
+
+  pub refuse-2 : ragged words ≡ false → limit < rows words → tableRefusal words room ≡ refused (answer 2 0 0)
+  unfolding tableRefusal
+  refuse-2 e h = rw (e, lt-ltb limit (rows words) h)
+
+  pub refuse-3 : ragged words ≡ false → rows words ≤ limit → {i : ℕ} → lowest (rows words) (badRow words) ≡ at i → tableRefusal words room ≡ refused (answer 3 i (badField words i))
+  unfolding tableRefusal
+  refuse-3 e h l = rw (e, le-ltb limit (rows words) h, l)
+
+  pub refuse-4 : ragged words ≡ false → rows words ≤ limit → lowest (rows words) (badRow words) ≡ nowhere → room < rows words → tableRefusal words room ≡ refused (answer 4 0 0)
+  unfolding tableRefusal
+  refuse-4 e h l k = rw (e, le-ltb limit (rows words) h, l, lt-ltb room (rows words) k)
+
+  pub refuse-none : ragged words ≡ false → rows words ≤ limit → lowest (rows words) (badRow words) ≡ nowhere → rows words ≤ room → tableRefusal words room ≡ fine
+  unfolding tableRefusal
+  refuse-none e h l k = rw (e, le-ltb limit (rows words) h, l, le-ltb room (rows words) k)
+
+  -- a table that no check refuses
+  pub record Accepted : Type 0 where
+    pub whole : ragged words ≡ false
+    pub few : rows words ≤ limit
+    pub good : (i : ℕ) → i < rows words → badField words i ≡ 0
+    pub roomy : rows words ≤ room
+
+  pub accepted : tableRefusal words room ≡ fine → Accepted
+  unfolding tableRefusal
+  accepted e =
+      let a = then-fine (refuseIf (ragged words) (answer 1 0 0)) _ e in
+      let b = then-fine (refuseIf (ltb limit (rows words)) (answer 2 0 0)) _ (a .1) in
+      let c = then-fine (refuseAt (lowest (rows words) (badRow words)) (λ i. answer 3 i (badField words i))) _ (b .1) in
+      record {
+        whole = if-fine (ragged words) _ (a .0);
+        few = ltb-false limit (rows words) (if-fine (ltb limit (rows words)) _ (b .0));
+        good = λ i l. good-row i (none-lowest (rows words) (badRow words) (at-fine _ _ (c .0)) i l);
+        roomy = ltb-false room (rows words) (if-fine (ltb room (rows words)) _ (c .1));
+      }
+    where
+      good-row : (i : ℕ) → (Is (badRow words i) → ⊥) → badField words i ≡ 0
+      good-row i h = go (eqb (badField words i) 0) refl
+        where
+          go : (b : Bool) → eqb (badField words i) 0 ≡ b → badField words i ≡ 0
+          go true q = eqb-true (badField words i) 0 q
+          go false q = absurd (h (rw q tt))
+
+-- ---- what code asks of an answer
+
+pub rows-all : (words : List ℕ) (n : ℕ) (c t j e key : List ℕ) {r : Intake} {m : ℕ} → RowsRead words n c t j e key r → r ≡ Rows m → (m ≡ n) × (lowest n (badRow words) ≡ nowhere) × Holds (tableOf words) n c t j e key
+rows-all words n c t j e key h q = subst (RowsRead words n c t j e key) q h
+
+pub rows-refused : (words : List ℕ) (n : ℕ) (c t j e key : List ℕ) {r : Intake} {x : Refusal} → RowsRead words n c t j e key r → r ≡ Refused x → (i : ℕ) × (lowest n (badRow words) ≡ at i) × (refusalAnswer x ≡ answer 3 i (badField words i))
+rows-refused words n c t j e key h q = subst (RowsRead words n c t j e key) q h

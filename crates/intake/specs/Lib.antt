@@ -1,0 +1,5 @@
+pub mod Words
+pub mod Answer
+pub mod Refusals
+pub mod Holds
+pub mod Laws
