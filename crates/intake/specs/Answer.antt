@@ -1,6 +1,8 @@
 -- What the desk replies, as document 01 numbers it, and checks that run one after the other. Definitions only.
 -- Assumes nothing.
 use Prim.Native.Nat.{ℕ}
+use mathlib.Core.Path.{_≡_}
+use mathlib.Core.List.{List}
 use mathlib.Core.Bool.{Bool, true, false}
 use Rattle.sums.specs.Masks.{Place, at, nowhere}
 use Rattle.intake.specs.declared.Refusal.{Refusal}
@@ -45,3 +47,9 @@ refuseIf false a = fine
 abbrev pub refuseAt : Place → (ℕ → Answer) → Check
 refuseAt (at p) a = refused (a p)
 refuseAt nowhere a = fine
+
+-- the reply to a request with these checks, and the lent list before and after: what a check refuses is refused, and the list untouched; all
+-- else is answered
+pub record Replied (check : Check) (before after : List ℕ) (a : Answer) (Answered : Type 0) : Type 0 where
+  pub refusing : (r : Answer) → check ≡ refused r → (a ≡ r) × (after ≡ before)
+  pub answering : check ≡ fine → Answered

@@ -13,9 +13,9 @@ use Rattle.sums.specs.MaskLaws.{none-lowest}
 use Rattle.licence.specs.Limit.{limit}
 use Rattle.licence.specs.Row.{badField}
 use Rattle.intake.specs.Words.{ragged, rows, badRow, tableOf}
-use Rattle.intake.specs.Answer.{answer, refusalAnswer, Answer, Check, refused, fine, refuseIf, refuseAt, _then_}
+use Rattle.intake.specs.Answer.{answer, refusalAnswer, Answer, Check, refused, fine, refuseIf, refuseAt, _then_, Replied}
 use Rattle.intake.specs.Refusals.{tableRefusal}
-use Rattle.intake.specs.Holds.{Holds, RowsRead}
+use Rattle.intake.specs.Holds.{Holds, RowsRead, TakenIn, IntakeIs}
 use Rattle.intake.specs.declared.Refusal.{Refusal}
 use Rattle.intake.specs.declared.Intake.{Intake}
 use Rattle.intake.specs.declared.Intake.the-variants.{Rows, Refused}
@@ -32,6 +32,13 @@ if-fine false a e = refl
 pub at-fine : (p : Place) (a : ℕ → Answer) → refuseAt p a ≡ fine → p ≡ nowhere
 at-fine (at k) a e = absurd (let z : _≡_ {A = ℕ} 0 1 = cc in omega arith)
 at-fine nowhere a e = refl
+
+-- a reply that a check refuses, and one that is answered
+pub replied-refused : {check : Check} {list : List ℕ} {a : Answer} {Answered : Type 0} → check ≡ refused a → Replied check list list a Answered
+replied-refused e = record { refusing = λ r q. (cc, refl); answering = λ q. absurd (let z : _≡_ {A = ℕ} 0 1 = cc in omega arith) }
+
+pub replied-answered : {check : Check} {before after : List ℕ} {a : Answer} {Answered : Type 0} → check ≡ fine → Answered → Replied check before after a Answered
+replied-answered e h = record { refusing = λ r q. absurd (let z : _≡_ {A = ℕ} 0 1 = cc in omega arith); answering = λ q. h }
 
 module _ (words : List ℕ) where
   pub no-words : length words ≡ 0 → ragged words ≡ true
@@ -101,3 +108,9 @@ rows-all words n c t j e key h q = subst (RowsRead words n c t j e key) q h
 
 pub rows-refused : (words : List ℕ) (n : ℕ) (c t j e key : List ℕ) {r : Intake} {x : Refusal} → RowsRead words n c t j e key r → r ≡ Refused x → (i : ℕ) × (lowest n (badRow words) ≡ at i) × (refusalAnswer x ≡ answer 3 i (badField words i))
 rows-refused words n c t j e key h q = subst (RowsRead words n c t j e key) q h
+
+pub taken-in : (words : List ℕ) (room : ℕ) (c t j e key : List ℕ) {r : Intake} {n : ℕ} → IntakeIs words room c t j e key r → r ≡ Rows n → TakenIn words room n c t j e key
+taken-in words room c t j e key h q = subst (IntakeIs words room c t j e key) q h
+
+pub taken-refused : (words : List ℕ) (room : ℕ) (c t j e key : List ℕ) {r : Intake} {x : Refusal} → IntakeIs words room c t j e key r → r ≡ Refused x → tableRefusal words room ≡ refused (refusalAnswer x)
+taken-refused words room c t j e key h q = subst (IntakeIs words room c t j e key) q h

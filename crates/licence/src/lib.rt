@@ -10,6 +10,9 @@ ghost use Rattle.licence.specs.Row.{word, sizeAllowed, firstBad, lengthO
 // specs/Limit.antt and the law `limit-is` move, and nothing else.
 pub const LIMIT: usize = 64;
 
+// More than any band's key: those of FIFOs go to 64, and each row has one past them.
+pub const KEYS: usize = LIMIT + 65;
+
 // A length in bit times, or the byte count of a frame with an 11-bit or a 29-bit identifier.
 pub enum Length {
     Bits(u32),

@@ -15,8 +15,8 @@ use Rattle.sums.specs.Masks.{Mask, except}
 use Rattle.sums.specs.MaskLaws.{and-left, and-right, and-intro, same-test}
 use Rattle.sums.specs.Columns.{at}
 use Rattle.order.specs.Table.{Table, band, MIN, leastE, F}
-use Rattle.order.specs.Orders.{mem, keyAt, Together, own, above, below}
-use Rattle.order.specs.Places.{take-at, at-take, drop-at, at-drop}
+use Rattle.order.specs.Orders.{mem, Order, keyAt, Together, own, above, below}
+use Rattle.order.specs.Places.{take-at, at-take, drop-at, at-drop, mem-cut, no-repeat-cut}
 use Rattle.order.specs.Same.{SameRows, same}
 
 module _ (τ : Table) where
@@ -95,3 +95,21 @@ module _ (τ : Table) where
         (λ k l. ap (λ (b : ℕ). except (mem (take i o)) (band τ b) k) one ∙ above-same k)
         (λ k l. ap (λ (b : ℕ). except (mem (drop (suc i) o)) (band τ b) k) one ∙ below-same k)
         P h
+
+  -- the rows of an order that do not stand before place p stand behind it, the band's own left out
+  pub behind : (o : List ℕ) → Order τ o → (p k : ℕ) → k < τ .n → except (λ i. not (mem (take p o) i)) (own τ o p) k ≡ below τ o p k
+  behind o ord p k l = same-test _ _ down up
+    where
+      down : Is (not (mem (take p o) k) && not (own τ o p k)) → Is (below τ o p k)
+      down h = go (mem-cut o p k (ord .every k l))
+        where
+          q : Is (not (own τ o p k))
+          q = and-right (not (mem (take p o) k)) (not (own τ o p k)) h
+          go : Is (mem (take p o) k) ⊎ ((k ≡ at o p) ⊎ Is (mem (drop (suc p) o) k)) → Is (below τ o p k)
+          go (inl m) = absurd (T-not (mem (take p o) k) (and-left (not (mem (take p o) k)) (not (own τ o p k)) h) m)
+          go (inr (inl e)) = absurd (not-band (keyAt τ o p) k q (ap (τ .key) e))
+          go (inr (inr m)) = and-intro (mem (drop (suc p) o) k) (not (own τ o p k)) m q
+      up : Is (below τ o p k) → Is (not (mem (take p o) k) && not (own τ o p k))
+      up h =
+          let m = and-left (mem (drop (suc p) o) k) (not (own τ o p k)) h in
+          and-intro (not (mem (take p o) k)) (not (own τ o p k)) (not-T (mem (take p o) k) (λ t. no-repeat-cut o p k (ord .once) t m)) (and-right (mem (drop (suc p) o) k) (not (own τ o p k)) h)

@@ -8,3 +8,4 @@ pub mod Figures
 pub mod Bands
 pub mod Split
 pub mod Sheet
+pub mod Marks

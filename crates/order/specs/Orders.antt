@@ -25,6 +25,11 @@ NoRepeat (x ∷ l) = (Is (mem l x) → ⊥) × NoRepeat l
 unfoldable pub badEntry : (n : ℕ) → List ℕ → Mask
 badEntry n o p = leb n (at o p) || anyBelow p (λ i. eqb (at o i) (at o p))
 
+-- place p resumes a band already left: the band stands at an earlier place, and another one just before p. (A priority row is a band of its
+-- own, so only a FIFO is ever resumed.)
+unfoldable pub resumes : (key : ℕ → ℕ) → List ℕ → Mask
+resumes key o p = anyBelow p (λ i. eqb (key (at o i)) (key (at o p))) && not (eqb (key (at o (p - 1))) (key (at o p)))
+
 module _ (τ : Table) where
   -- an order: each row number once
   pub record Order (o : List ℕ) : Type 0 where
@@ -35,11 +40,6 @@ module _ (τ : Table) where
   -- the key of the band at place p
   abbrev pub keyAt : List ℕ → ℕ → ℕ
   keyAt o p = τ .key (at o p)
-
-  -- place p resumes a band already left: the band stands at an earlier place, and another one just before p. (A priority row is a band of
-  -- its own, so only a FIFO is ever resumed.)
-  unfoldable pub resumes : List ℕ → Mask
-  resumes o p = anyBelow p (λ i. eqb (keyAt o i) (keyAt o p)) && not (eqb (keyAt o (p - 1)) (keyAt o p))
 
   -- queues are kept together: what stands between two rows of a band is of that band
   abbrev pub Together : List ℕ → Type 0

@@ -5,6 +5,7 @@ use Prim.Native.Nat.{ℕ, zero, suc, _+_, _-_, _≤_, _<_}
 use native.Mathlib.Nat.{eq-or-lt-of-le}
 use native.Mathlib.Decide.{decLt, ℕ-discrete}
 use native.Mathlib.Omega.{arith}
+use borrow.Author.Count.{below-more}
 use mathlib.Core.Path.{_≡_, refl, sym, ap, _∙_, subst}
 use mathlib.Core.Logic.{_⊎_, inl, inr}
 use mathlib.Core.List.{List}
@@ -25,6 +26,9 @@ None n p = (k : ℕ) → k < n → Is (p k) → ⊥
 
 eqb-of : {a b : ℕ} → a ≡ b → Is (eqb a b)
 eqb-of {a} {b} e = subst (λ (x : ℕ). Is (eqb a x)) e (eqb-refl a)
+
+pub none-next : {n : ℕ} (p : Mask) → None n p → (Is (p n) → ⊥) → None (n + 1) p
+none-next {n} p h q = below-more (λ (k : ℕ). Is (p k) → ⊥) n h q
 
 module _ (n : ℕ) (o : List ℕ) (p : ℕ) (fine : Is (badEntry n o p) → ⊥) where
   pub entry-range : at o p < n
@@ -47,7 +51,7 @@ module _ (τ : Table) (o : List ℕ) (len : length o ≡ τ .n) where
       in-range k h = let r = mem-at o k h in subst (λ (x : ℕ). x < τ .n) (r .2) (entry-range (τ .n) o (r .0) (fine (r .0) (omega (arith, r .1))))
 
   -- the band of a place stands at an earlier one: then it stands just before it
-  pub together-of : None (τ .n) (resumes τ o) → Together τ o
+  pub together-of : None (τ .n) (resumes (τ .key) o) → Together τ o
   unfolding resumes
   together-of fine a b c ab bc hc e = back (c - b) b (omega arith) ab
     where
@@ -65,7 +69,7 @@ module _ (τ : Table) (o : List ℕ) (len : length o ≡ τ .n) where
       back (suc d) p q l = ap (keyAt τ o) (omega arith) ∙ step (suc p) (omega arith) (omega arith) (back d (suc p) (omega arith) (omega arith))
 
   -- and kept together, no place resumes a band
-  pub fine-of : Together τ o → None (τ .n) (resumes τ o)
+  pub fine-of : Together τ o → None (τ .n) (resumes (τ .key) o)
   unfolding resumes
   fine-of tog p h t =
       let r = any-elim p (λ i. eqb (keyAt τ o i) (keyAt τ o p)) (and-left (anyBelow p (λ i. eqb (keyAt τ o i) (keyAt τ o p))) (not (eqb (keyAt τ o (p - 1)) (keyAt τ o p))) t) in

@@ -72,6 +72,11 @@ any-intro (suc n) p k l h = go (eq-or-lt-of-le (le-of-suc-le-suc l)) (any-intro 
     go (inl e) ih = or-right (anyBelow n p) (p n) (subst (λ (x : ℕ). Is (p x)) e h)
     go (inr q) ih = or-left (anyBelow n p) (p n) (ih q h)
 
+pub any-same : (n : ℕ) (p q : Mask) → ((k : ℕ) → k < n → p k ≡ q k) → anyBelow n p ≡ anyBelow n q
+unfolding anyBelow
+any-same zero p q h = refl
+any-same (suc n) p q h = cc (any-same n p q (λ k l. h k (omega arith)), h n (le-refl (suc n)))
+
 -- ---- the lowest that passes
 
 -- what it is for a place to be the lowest
@@ -121,3 +126,9 @@ none-lowest n p e = go (subst (Lowest n p) e (lowest-is n p))
   where
     go : Lowest n p nowhere → (j : ℕ) → j < n → Is (p j) → ⊥
     go (is-none h) = h
+
+-- two tests that agree below n have one lowest place
+pub lowest-same : (n : ℕ) (p q : Mask) → ((k : ℕ) → k < n → p k ≡ q k) → lowest n p ≡ lowest n q
+unfolding lowest
+lowest-same zero p q h = refl
+lowest-same (suc n) p q h = cc (lowest-same n p q (λ k l. h k (omega arith)), h n (le-refl (suc n)))

@@ -1,0 +1,5 @@
+-- Laws that the proofs of this crate cite. Assumes nothing.
+mod Entries
+mod Filling
+mod Checks
+mod Joined

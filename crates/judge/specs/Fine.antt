@@ -1,0 +1,59 @@
+-- What a table and an order are known to be where none of the refusals 1 to 7 is given.
+-- Assumes nothing.
+use Prim.Native.Nat.{ℕ, _≤_, _<_}
+use native.Mathlib.Omega.{arith}
+use mathlib.Core.Path.{_≡_}
+use mathlib.Core.Bool.{not}
+use mathlib.Core.List.{List}
+use lib.ListN.{length}
+use lib.Dec.{eqb}
+use borrow.Author.Tests.{eqb-true, not-false}
+use Rattle.sums.specs.Masks.{lowest}
+use Rattle.sums.specs.MaskLaws.{none-lowest}
+use Rattle.sums.specs.Columns.{at}
+use Rattle.licence.specs.Laws.{row-allowed}
+use Rattle.order.specs.Orders.{badEntry, Order, Together}
+use Rattle.order.specs.Lists.{mem-getD, mem-at}
+use Rattle.order.specs.Split.{order-of, together-of}
+use Rattle.intake.specs.Words.{rows, tableOf}
+use Rattle.intake.specs.Answer.{answer, fine, refuseIf, refuseAt}
+use Rattle.intake.specs.Refusals.{tableRefusal}
+use Rattle.intake.specs.Laws.{then-fine, if-fine, at-fine, Accepted, accepted}
+use Rattle.judge.specs.Judged.{orderRefusal, refusal}
+
+-- the table is accepted, and the order has each of its rows once, with each FIFO kept together
+pub record Fine (words o : List ℕ) (room : ℕ) : Type 0 where
+  pub accepted : Accepted words room
+  pub count : length o ≡ rows words
+  pub order : Order (tableOf words) o
+  pub together : Together (tableOf words) o
+
+-- what no check refuses is fine
+pub fine-order : (words o : List ℕ) (room : ℕ) → refusal words o room ≡ fine → Fine words o room
+unfolding orderRefusal
+fine-order words o room e =
+    let table = then-fine (tableRefusal words room) _ e in
+    let entries = then-fine (refuseIf (not (eqb (length o) (rows words))) (answer 5 0 0)) _ (table .1) in
+    let queues = then-fine (refuseAt (lowest (rows words) (badEntry (rows words) o)) (λ p. answer 6 p 0)) _ (entries .1) in
+    let n-entries = eqb-true (length o) (rows words) (not-false _ (if-fine (not (eqb (length o) (rows words))) _ (entries .0))) in
+    record {
+      accepted = accepted words room (table .0);
+      count = n-entries;
+      order = order-of (tableOf words) o n-entries (none-lowest _ _ (at-fine _ _ (queues .0)));
+      together = together-of (tableOf words) o n-entries (none-lowest _ _ (at-fine _ _ (queues .1)));
+    }
+
+module _ {words o : List ℕ} {room : ℕ} (known : Fine words o room) where
+  -- every row has a bit
+  pub some-bits : (k : ℕ) → k < rows words → 1 ≤ tableOf words .C k
+  some-bits k l = row-allowed words k (known .accepted .good k l) .length-pos
+
+  -- every entry is a row
+  pub entry-row : (p : ℕ) → p < rows words → at o p < rows words
+  entry-row p l = known .order .range (at o p) (mem-getD o p (omega arith))
+
+  -- every row stands at a place
+  pub place-of : (k : ℕ) → k < rows words → (p : ℕ) × (p < rows words) × (at o p ≡ k)
+  place-of k l =
+      let (p, inside, stands) = mem-at o k (known .order .every k l) in
+      (p, omega arith, stands)

@@ -1,0 +1,4 @@
+pub mod Judged
+pub mod Walk
+pub mod Fine
+pub mod Outcome

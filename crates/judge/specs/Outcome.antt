@@ -1,0 +1,182 @@
+-- What follows from the statement of judging: it leaves room for a single outcome, 0 stands for late rows and for no others, and 'passed'
+-- is answered exactly where every band passes. The promises come first, their proofs below.
+-- Assumes nothing.
+use Prim.Native.Nat.{ℕ, _≤_, _<_}
+use native.Mathlib.Decide.{decLt}
+use native.Mathlib.Omega.{arith}
+use mathlib.Core.Path.{_≡_, refl, sym, ap, _∙_, subst}
+use mathlib.Core.Logic.{_⊎_, inl, inr, _↔_}
+use mathlib.Core.Bool.{Bool, true, false}
+use mathlib.Core.List.{List}
+use lib.ListN.{length}
+use lib.Seq.{ext-getD}
+use lib.Dec.{eqb-refl, lit≤}
+use Rattle.sums.specs.Masks.{Place, at as found, nowhere}
+use Rattle.sums.specs.Columns.{at}
+use Rattle.order.specs.Table.{Table}
+use Rattle.order.specs.Orders.{keyAt, own, above, below, PassesAt, FigureAt, AllPass}
+use Rattle.order.specs.Figures.{figure-one, figure-passes, figure-pos}
+use Rattle.intake.specs.Words.{rows, tableOf}
+use Rattle.intake.specs.Answer.{Answer, answer, Check, refused, fine, refuseIf, refuseAt, _then_}
+use Rattle.intake.specs.Refusals.{tableRefusal}
+use Rattle.judge.specs.Judged.{orderRefusal, refusal, LateAt, ShownAt, Written, AllPassed, SomeLate, Judged}
+use Rattle.judge.specs.Fine.{Fine, fine-order, some-bits, entry-row, place-of}
+
+-- For any table, order and lent list, the statement of judging allows no two answers and no two lists afterwards.
+abbrev pub OneOutcome : Type 0
+OneOutcome = (words order before after after′ : List ℕ) (a a′ : Answer)
+    → Judged words order before after a → Judged words order before after′ a′ → (a ≡ a′) × (after ≡ after′)
+
+-- Where nothing is refused, the row at a place has the word 0 exactly if its band is late.
+abbrev pub ZeroExactlyLate : Type 0
+ZeroExactlyLate = (words order before after : List ℕ) (a : Answer) → Judged words order before after a
+    → refusal words order (length before) ≡ fine → (p : ℕ) → p < rows words → (at after (at order p) ≡ 0) ↔ LateAt (tableOf words) order p
+
+-- A refusal bears no number past 7.
+abbrev pub RefusedSmall : Type 0
+RefusedSmall = (words order : List ℕ) (room : ℕ) (r : Answer) → refusal words order room ≡ refused r → r .number ≤ 7
+
+-- nothing is refused, every band passes, and the list has the figure of each row
+pub record Passing (words order before after : List ℕ) : Type 0 where
+  pub unrefused : refusal words order (length before) ≡ fine
+  pub known : Fine words order (length before)
+  pub passing : AllPass (tableOf words) order
+  pub written : Written (tableOf words) order before after
+  pub figures : (p : ℕ) → p < rows words → FigureAt (tableOf words) order p (at after (at order p))
+
+-- The answer 'passed' means that nothing is refused, every band passes, and the list has the figures.
+abbrev pub PassedMeans : Type 0
+PassedMeans = (words order before after : List ℕ) (a : Answer) → Judged words order before after a
+    → a .number ≡ 100 → Passing words order before after
+
+-- Where nothing is refused and every band passes, the answer is 'passed'.
+abbrev pub PassingAnswered : Type 0
+PassingAnswered = (words order before after : List ℕ) (a : Answer) → Judged words order before after a
+    → refusal words order (length before) ≡ fine → AllPass (tableOf words) order → a ≡ answer 100 0 0
+
+-- ---- an order that is answered
+
+module _ (τ : Table) (order : List ℕ) where
+  abbrev Verdict : Answer → Type 0
+  Verdict a = AllPassed τ order a ⊎ SomeLate τ order a
+
+  -- of two first late places neither is sooner
+  not-sooner : {a a′ : Answer} (x : SomeLate τ order a) (y : SomeLate τ order a′) → x .place < y .place → ⊥
+  not-sooner x y l = x .late (y .earlier (x .place) l)
+
+  one-verdict : {a a′ : Answer} → Verdict a → Verdict a′ → a ≡ a′
+  one-verdict (inl x) (inl y) = cc
+  one-verdict (inl x) (inr y) = absurd (y .late (x .passing (y .place) (y .inside)))
+  one-verdict (inr x) (inl y) = absurd (x .late (y .passing (x .place) (x .inside)))
+  one-verdict (inr x) (inr y) = let e : x .place ≡ y .place = omega (arith, not-sooner x y, not-sooner y x) in cc
+
+  only-passed : {a : Answer} → a .number ≡ 100 → Verdict a → AllPassed τ order a
+  only-passed e (inl x) = x
+  only-passed e (inr y) = absurd (omega (arith, ap (λ (r : Answer). r .number) (y .says)))
+
+  says-passed : {a : Answer} → ((p : ℕ) → p < τ .n → PassesAt τ order p) → Verdict a → a ≡ answer 100 0 0
+  says-passed h (inl x) = x .says
+  says-passed h (inr y) = absurd (y .late (h (y .place) (y .inside)))
+
+  pub not-late : (p : ℕ) {R : ℕ} → FigureAt τ order p R → LateAt τ order p → ⊥
+  not-late p f late = late (figure-passes τ (own τ order p) (above τ order p) (below τ order p) f)
+
+  one-shown : (p : ℕ) {R R′ : ℕ} → ShownAt τ order p R → ShownAt τ order p R′ → R ≡ R′
+  one-shown p (inl f) (inl g) = figure-one _ _ _ f g
+  one-shown p (inl f) (inr y) = absurd (not-late p f (y .0))
+  one-shown p (inr x) (inl g) = absurd (not-late p g (x .0))
+  one-shown p (inr x) (inr y) = x .1 ∙ sym (y .1)
+
+  -- the band at a place has the row at that place, so its figure is at least 1
+  not-zero : ((k : ℕ) → k < τ .n → 1 ≤ τ .C k) → (p : ℕ) → at order p < τ .n → {R : ℕ} → FigureAt τ order p R → 1 ≤ R
+  not-zero some p l f = figure-pos τ (own τ order p) (above τ order p) (below τ order p) some (at order p) l (eqb-refl (keyAt τ order p)) f
+
+  pub zero-late : ((k : ℕ) → k < τ .n → 1 ≤ τ .C k) → (p : ℕ) → at order p < τ .n → {R : ℕ} → ShownAt τ order p R → (R ≡ 0) ↔ LateAt τ order p
+  zero-late some p l (inl f) = ((λ z. absurd (omega (arith, not-zero some p l f))), (λ late. absurd (not-late p f late)))
+  zero-late some p l (inr x) = ((λ _. x .0), (λ _. x .1))
+
+  shown-figure : (p : ℕ) {R : ℕ} → PassesAt τ order p → ShownAt τ order p R → FigureAt τ order p R
+  shown-figure p h (inl f) = f
+  shown-figure p h (inr x) = absurd (x .0 h)
+
+  -- every row stands at a place, so the words below n are settled too
+  one-list : {before after after′ : List ℕ} → ((k : ℕ) → k < τ .n → (p : ℕ) × (p < τ .n) × (at order p ≡ k))
+      → Written τ order before after → Written τ order before after′ → after ≡ after′
+  one-list {before} {after} {after′} place w w′ =
+      ext-getD 0 after after′ (w .same-length ∙ sym (w′ .same-length)) (λ i _. go i (decLt i (τ .n)))
+    where
+      go : (i : ℕ) → Dec (i < τ .n) → at after i ≡ at after′ i
+      go i (yes l) =
+          let (p, inside, stands) = place i l in
+          subst (λ (k : ℕ). at after k ≡ at after′ k) stands (one-shown p (w .figures p inside) (w′ .figures p inside))
+      go i (no l) = w .beyond i (omega arith) ∙ sym (w′ .beyond i (omega arith))
+
+pub one-outcome : OneOutcome
+one-outcome words order before after after′ a a′ j j′ = go (refusal words order (length before)) refl
+  where
+    go : (c : Check) → refusal words order (length before) ≡ c → (a ≡ a′) × (after ≡ after′)
+    go (refused r) e =
+        let x = j .refusing r e in
+        let y = j′ .refusing r e in
+        (x .0 ∙ sym (y .0), x .1 ∙ sym (y .1))
+    go fine e =
+        let known = fine-order words order (length before) e in
+        let x = j .answering e in
+        let y = j′ .answering e in
+        (one-verdict (tableOf words) order (x .verdict) (y .verdict), one-list (tableOf words) order (place-of known) (x .written) (y .written))
+
+pub zero-exactly-late : ZeroExactlyLate
+zero-exactly-late words order before after a j e p l =
+    let known = fine-order words order (length before) e in
+    zero-late (tableOf words) order (some-bits known) p (entry-row known p l) (j .answering e .written .figures p l)
+
+pub passing-answered : PassingAnswered
+passing-answered words order before after a j e h =
+    let known = fine-order words order (length before) e in
+    says-passed (tableOf words) order (λ p l. h p (omega arith)) (j .answering e .verdict)
+
+-- ---- the numbers of the refusals
+
+-- a check that refuses does so with a number no more than 7
+data Small : Check → Type 0 where
+  small : {r : Answer} → r .number ≤ 7 → Small (refused r)
+  none : Small fine
+
+then-small : {a b : Check} → Small a → Small b → Small (a then b)
+then-small (small h) k = small h
+then-small none k = k
+
+if-small : (t : Bool) (r : Answer) → r .number ≤ 7 → Small (refuseIf t r)
+if-small true r h = small h
+if-small false r h = none
+
+at-small : (p : Place) (r : ℕ → Answer) → ((k : ℕ) → r k .number ≤ 7) → Small (refuseAt p r)
+at-small (found k) r h = small (h k)
+at-small nowhere r h = none
+
+refusal-small : (words order : List ℕ) (room : ℕ) → Small (refusal words order room)
+unfolding tableRefusal orderRefusal
+refusal-small words order room = search (then-small, if-small, at-small, lit≤) depth 7
+
+pub refused-small : RefusedSmall
+refused-small words order room r e = go (subst Small e (refusal-small words order room))
+  where
+    go : Small (refused r) → r .number ≤ 7
+    go (small h) = h
+
+pub passed-means : PassedMeans
+passed-means words order before after a j is-100 = go (refusal words order (length before)) refl
+  where
+    go : (c : Check) → refusal words order (length before) ≡ c → Passing words order before after
+    go (refused r) e = absurd (omega (arith, refused-small words order (length before) r e, ap (λ (x : Answer). x .number) (j .refusing r e .0)))
+    go fine e =
+        let known = fine-order words order (length before) e in
+        let x = j .answering e in
+        let all = only-passed (tableOf words) order is-100 (x .verdict) in
+        record {
+          unrefused = e;
+          known = known;
+          passing = λ p l. all .passing p (omega arith);
+          written = x .written;
+          figures = λ p l. shown-figure (tableOf words) order p (all .passing p l) (x .written .figures p l);
+        }

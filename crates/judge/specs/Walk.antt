@@ -1,0 +1,71 @@
+-- What the functions of this crate answer about an order and a table held in columns. Definitions only.
+-- Assumes nothing.
+use Prim.Native.Nat.{ℕ, _+_, _≤_, _<_}
+use mathlib.Core.Path.{_≡_}
+use mathlib.Core.List.{List}
+use lib.ListN.{length}
+use lib.Dec.{eqb}
+use Rattle.sums.specs.Masks.{Mask, Place, at, nowhere}
+use Rattle.sums.specs.Columns.{at as entry}
+use Rattle.licence.specs.Limit.{limit}
+use Rattle.order.specs.Table.{Table}
+use Rattle.order.specs.Orders.{badEntry, Together}
+use Rattle.order.specs.Split.{None}
+use Rattle.order.specs.Marks.{Marked}
+use Rattle.order.specs.Sheet.{Sheet, sheet}
+use Rattle.intake.specs.Answer.{Answer, Replied}
+use Rattle.judge.specs.Judged.{orderRefusal, ShownAt, Answered}
+use Rattle.order.specs.declared.Verdict.{Verdict}
+use Rattle.order.specs.declared.Verdict.the-variants.{Figure, Late}
+use Rattle.judge.specs.declared.Found.{Found}
+use Rattle.judge.specs.declared.Found.the-variants.{At, Nowhere}
+
+-- the place that a search found
+abbrev pub placeOf : Found → Place
+placeOf (At p) = at p
+placeOf Nowhere = nowhere
+
+-- an order of n entries, each a row
+pub record InRange (n : ℕ) (order : List ℕ) : Type 0 where
+  pub few : n ≤ limit
+  pub count : length order ≡ n
+  pub range : (p : ℕ) → p < n → entry order p < n
+
+-- a key for each row, none past that of a priority row in its place
+pub record Keyed (n : ℕ) (key : List ℕ) : Type 0 where
+  pub long-key : n ≤ length key
+  pub key-most : (k : ℕ) → k < n → entry key k ≤ 65 + k
+
+-- a table in columns, with numbers as document 01 allows them
+pub record Held (n : ℕ) (c t j e key : List ℕ) : Type 0 where
+  pub numbers : Sheet n c t j e
+  pub some-bits : (k : ℕ) → k < n → 1 ≤ entry c k
+  pub keys : Keyed n key
+
+-- what stands for a row: its band's figure, or 0
+abbrev pub shownAs : Verdict → ℕ
+shownAs (Figure R) = R
+shownAs Late = 0
+
+-- the row at place p has the figure 0
+unfoldable pub zeroAt : (figures order : List ℕ) → Mask
+zeroAt figures order p = eqb (entry figures (entry order p)) 0
+
+-- an order that no check refuses
+pub record Sound (n : ℕ) (τ : Table) (order : List ℕ) : Type 0 where
+  pub count : length order ≡ n
+  pub entries : None n (badEntry n order)
+  pub together : Together τ order
+
+-- midway along the order, at place p: the rows before it are flagged, and have their figures
+pub record Midway (n : ℕ) (c t j e key order flags figures : List ℕ) (p : ℕ) : Type 0 where
+  pub held : Held n c t j e key
+  pub sound : Sound n (sheet n c t j e key) order
+  pub inside : p < n
+  pub marked : Marked (λ i. i) order flags n p
+  pub room : n ≤ length figures
+  pub shown : (x : ℕ) → x < p → ShownAt (sheet n c t j e key) order x (entry figures (entry order x))
+
+-- judging an order over a table in columns: what the checks of the order refuse, and else the answer
+abbrev pub OrderJudged : (τ : Table) (order before after : List ℕ) (a : Answer) → Type 0
+OrderJudged τ order before after a = Replied (orderRefusal τ order) before after a (Answered τ order before after a)
