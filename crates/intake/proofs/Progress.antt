@@ -56,11 +56,11 @@ progress-next words i {c} {t} {j} {e} {key} vc vt vj ve vk room g pc pt pj pe pk
     record {
       good = below-more (λ (k : ℕ). badField words k ≡ 0) i (h .good) g;
       holds =
-        record {
-          is-C = set-below (λ (k x : ℕ). x ≡ tableOf words .C k) c i vc (omega (arith, room .long-c)) (h .holds .is-C) pc;
-          is-T = set-below (λ (k x : ℕ). x ≡ tableOf words .T k) t i vt (omega (arith, room .long-t)) (h .holds .is-T) pt;
-          is-J = set-below (λ (k x : ℕ). x ≡ tableOf words .J k) j i vj (omega (arith, room .long-j)) (h .holds .is-J) pj;
-          is-E = set-below (λ (k x : ℕ). x ≡ tableOf words .E k) e i ve (omega (arith, room .long-e)) (h .holds .is-E) pe;
-          is-key = set-below (λ (k x : ℕ). x ≡ tableOf words .key k) key i vk (omega (arith, room .long-key)) (h .holds .is-key) pk;
-        };
+          record {
+            is-C = set-below (λ (k x : ℕ). x ≡ tableOf words .C k) c i vc (omega (arith, room .long-c)) (h .holds .is-C) pc;
+            is-T = set-below (λ (k x : ℕ). x ≡ tableOf words .T k) t i vt (omega (arith, room .long-t)) (h .holds .is-T) pt;
+            is-J = set-below (λ (k x : ℕ). x ≡ tableOf words .J k) j i vj (omega (arith, room .long-j)) (h .holds .is-J) pj;
+            is-E = set-below (λ (k x : ℕ). x ≡ tableOf words .E k) e i ve (omega (arith, room .long-e)) (h .holds .is-E) pe;
+            is-key = set-below (λ (k x : ℕ). x ≡ tableOf words .key k) key i vk (omega (arith, room .long-key)) (h .holds .is-key) pk;
+          };
     }

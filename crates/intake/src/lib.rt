@@ -26,7 +26,15 @@ pub enum Intake {
 }
 
 // Reads n rows into the columns; a row that can't be read ends the work at that point with its place.
-fn read_rows(table: &[u32], n: usize, c: &mut [u32], t: &mut [u32], j: &mut [u32], e: &mut [u32], key: &mut [u32]) -> Intake
+fn read_rows(
+    table: &[u32],
+    n: usize,
+    c: &mut [u32],
+    t: &mut [u32],
+    j: &mut [u32],
+    e: &mut [u32],
+    key: &mut [u32],
+) -> Intake
     requires { ⌜ (n ≤ limit) × (n * 6 ≤ length (now table)) × Room n (now c) (now t) (now j) (now e) (now key) ⌝ }
     ensures { λ r. ⌜ RowsRead (now (table .entry)) n (now (c .exit)) (now (t .exit)) (now (j .exit)) (now (e .exit)) (now (key .exit)) r ⌝ }
 {
@@ -49,7 +57,15 @@ fn read_rows(table: &[u32], n: usize, c: &mut [u32], t: &mut [u32], j: &mut [u32
 }
 
 // Takes in a table for an answer that has this much room.
-pub fn take_in(table: &[u32], room: usize, c: &mut [u32], t: &mut [u32], j: &mut [u32], e: &mut [u32], key: &mut [u32]) -> Intake
+pub fn take_in(
+    table: &[u32],
+    room: usize,
+    c: &mut [u32],
+    t: &mut [u32],
+    j: &mut [u32],
+    e: &mut [u32],
+    key: &mut [u32],
+) -> Intake
     requires { ⌜ Room limit (now c) (now t) (now j) (now e) (now key) ⌝ }
     ensures { λ r. ⌜ IntakeIs (now (table .entry)) room (now (c .exit)) (now (t .exit)) (now (j .exit)) (now (e .exit)) (now (key .exit)) r ⌝ }
 {

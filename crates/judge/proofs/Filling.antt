@@ -88,7 +88,7 @@ filled-next τ order before after p m R fine room l e s h =
       same-length = simp length-set (h .same-length);
       beyond = λ i b. getD-set-other after m i R 0 (λ q. omega arith) ∙ h .beyond i b;
       shown =
-        below-more (λ (y : ℕ). ShownAt τ order y (at (set after m R) (at order y))) p
-        (λ y i. subst (ShownAt τ order y) (sym (getD-set-other after m (at order y) R 0 (λ q. entry-new (τ .n) order p (fine p l) y i (q ∙ e)))) (h .shown y i))
-        (subst (ShownAt τ order p) (sym (ap (at (set after m R)) (sym e) ∙ getD-set-same after m R 0 (omega (arith, h .same-length)))) s);
+          below-more (λ (y : ℕ). ShownAt τ order y (at (set after m R) (at order y))) p
+          (λ y i. subst (ShownAt τ order y) (sym (getD-set-other after m (at order y) R 0 (λ q. entry-new (τ .n) order p (fine p l) y i (q ∙ e)))) (h .shown y i))
+          (subst (ShownAt τ order p) (sym (ap (at (set after m R)) (sym e) ∙ getD-set-same after m R 0 (omega (arith, h .same-length)))) s);
     }

@@ -112,20 +112,20 @@ pub held : (words : List ℕ) (room : ℕ) {n : ℕ} {c t j e key : List ℕ} �
 held words room {n} {c} {t} {j} {e} {key} long x =
     record {
       numbers =
-        record {
-          rates =
-            record {
-              long-c = omega (arith, long .long-c, few);
-              long-t = omega (arith, long .long-t, few);
-              long-j = omega (arith, long .long-j, few);
-              c-most = λ k l. omega (arith, x .holds .is-C k l, row k l .length-le);
-              t-least = λ k l. omega (arith, x .holds .is-T k l, row k l .period-pos);
-              t-most = λ k l. omega (arith, x .holds .is-T k l, row k l .period-le);
-              j-most = λ k l. omega (arith, x .holds .is-J k l, row k l);
-            };
-          lengths = record { few = few; long-c = omega (arith, long .long-c, few); long-e = omega (arith, long .long-e, few); c-most = λ k l. omega (arith, x .holds .is-C k l, row k l .length-le) };
-          e-most = λ k l. omega (arith, x .holds .is-E k l, row k l);
-        };
+          record {
+            rates =
+                record {
+                  long-c = omega (arith, long .long-c, few);
+                  long-t = omega (arith, long .long-t, few);
+                  long-j = omega (arith, long .long-j, few);
+                  c-most = λ k l. omega (arith, x .holds .is-C k l, row k l .length-le);
+                  t-least = λ k l. omega (arith, x .holds .is-T k l, row k l .period-pos);
+                  t-most = λ k l. omega (arith, x .holds .is-T k l, row k l .period-le);
+                  j-most = λ k l. omega (arith, x .holds .is-J k l, row k l);
+                };
+            lengths = record { few = few; long-c = omega (arith, long .long-c, few); long-e = omega (arith, long .long-e, few); c-most = λ k l. omega (arith, x .holds .is-C k l, row k l .length-le) };
+            e-most = λ k l. omega (arith, x .holds .is-E k l, row k l);
+          };
       some-bits = λ k l. omega (arith, x .holds .is-C k l, row k l .length-pos);
       keys = record { long-key = omega (arith, long .long-key, few); key-most = λ k l. omega (arith, x .holds .is-key k l, key-bound words k (good k l)) };
     }

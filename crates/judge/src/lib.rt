@@ -115,7 +115,18 @@ fn shown(v: order::Verdict) -> u32
 }
 
 // What stands for the row at place p: that of the place before it if it is of the same band, else the band is judged.
-fn figure_at(n: usize, c: &[u32], t: &[u32], j: &[u32], e: &[u32], key: &[u32], order: &[u32], before: &[u32], figures: &[u32], p: usize) -> u32
+fn figure_at(
+    n: usize,
+    c: &[u32],
+    t: &[u32],
+    j: &[u32],
+    e: &[u32],
+    key: &[u32],
+    order: &[u32],
+    before: &[u32],
+    figures: &[u32],
+    p: usize,
+) -> u32
     requires { ⌜ Midway n (now c) (now t) (now j) (now e) (now key) (now order) (now before) (now figures) p ⌝ }
     ensures { λ r. ⌜ ShownAt (sheet n (now (c .entry)) (now (t .entry)) (now (j .entry)) (now (e .entry)) (now (key .entry))) (now (order .entry)) p r ⌝ }
 {
@@ -130,7 +141,16 @@ fn figure_at(n: usize, c: &[u32], t: &[u32], j: &[u32], e: &[u32], key: &[u32], 
 }
 
 // Writes what stands for each row.
-fn fill(n: usize, c: &[u32], t: &[u32], j: &[u32], e: &[u32], key: &[u32], order: &[u32], figures: &mut [u32])
+fn fill(
+    n: usize,
+    c: &[u32],
+    t: &[u32],
+    j: &[u32],
+    e: &[u32],
+    key: &[u32],
+    order: &[u32],
+    figures: &mut [u32],
+)
     requires { ⌜ Held n (now c) (now t) (now j) (now e) (now key) × Sound n (sheet n (now c) (now t) (now j) (now e) (now key)) (now order) × (n ≤ length (now figures)) ⌝ }
     ensures { λ r. ⌜ Written (sheet n (now (c .entry)) (now (t .entry)) (now (j .entry)) (now (e .entry)) (now (key .entry))) (now (order .entry)) (now (figures .entry)) (now (figures .exit)) ⌝ }
 {
@@ -160,7 +180,16 @@ fn first_zero(order: &[u32], figures: &[u32], n: usize) -> Found
 }
 
 // Judges the order over a table in columns: refusals 5 to 7, and the verdict.
-fn judge_order(n: usize, c: &[u32], t: &[u32], j: &[u32], e: &[u32], key: &[u32], order: &[u32], figures: &mut [u32]) -> Judgement
+fn judge_order(
+    n: usize,
+    c: &[u32],
+    t: &[u32],
+    j: &[u32],
+    e: &[u32],
+    key: &[u32],
+    order: &[u32],
+    figures: &mut [u32],
+) -> Judgement
     requires { ⌜ Held n (now c) (now t) (now j) (now e) (now key) × (n ≤ length (now figures)) ⌝ }
     ensures { λ r. ⌜ OrderJudged (sheet n (now (c .entry)) (now (t .entry)) (now (j .entry)) (now (e .entry)) (now (key .entry))) (now (order .entry)) (now (figures .entry)) (now (figures .exit)) (judgementAnswer r) ⌝ }
 {
@@ -192,7 +221,15 @@ pub fn judge(table: &[u32], order: &[u32], figures: &mut [u32]) -> Judgement
     let mut j = [0u32; licence::LIMIT];
     let mut e = [0u32; licence::LIMIT];
     let mut key = [0u32; licence::LIMIT];
-    let taken = intake::take_in(table, figures.len(), &mut c, &mut t, &mut j, &mut e, &mut key);
+    let taken = intake::take_in(
+        table,
+        figures.len(),
+        &mut c,
+        &mut t,
+        &mut j,
+        &mut e,
+        &mut key,
+    );
     match taken {
         intake::Intake::Refused(refusal) => Judgement::Refused(refusal),
         intake::Intake::Rows(n) => judge_order(n, &c, &t, &j, &e, &key, order, figures),

@@ -105,10 +105,12 @@ module _ (τ : Table) where
         where
           q : Is (not (own τ o p k))
           q = and-right (not (mem (take p o) k)) (not (own τ o p k)) h
+
           go : Is (mem (take p o) k) ⊎ ((k ≡ at o p) ⊎ Is (mem (drop (suc p) o) k)) → Is (below τ o p k)
           go (inl m) = absurd (T-not (mem (take p o) k) (and-left (not (mem (take p o) k)) (not (own τ o p k)) h) m)
           go (inr (inl e)) = absurd (not-band (keyAt τ o p) k q (ap (τ .key) e))
           go (inr (inr m)) = and-intro (mem (drop (suc p) o) k) (not (own τ o p k)) m q
+
       up : Is (below τ o p k) → Is (not (mem (take p o) k) && not (own τ o p k))
       up h =
           let m = and-left (mem (drop (suc p) o) k) (not (own τ o p k)) h in

@@ -49,5 +49,6 @@ marked-rows o p k l = same-test _ _ into out
   where
     into : Is (shownBefore (λ i. i) o p k) → Is (mem (take p o) k)
     into h = let r = any-elim p (λ i. eqb (at o i) k) h in subst (λ (x : ℕ). Is (mem (take p o) x)) (eqb→eq (at o (r .0)) k (r .2)) (at-take o p (r .0) (r .1) (omega (arith, r .1)))
+
     out : Is (mem (take p o) k) → Is (shownBefore (λ i. i) o p k)
     out h = let r = take-at o p k h in any-intro p (λ i. eqb (at o i) k) (r .0) (r .1) (subst (λ (x : ℕ). Is (eqb (at o (r .0)) x)) (r .3) (eqb-refl (at o (r .0))))

@@ -64,15 +64,18 @@ loop-again c =
     let p = c .before .before .before .before .before .before .before .before .before .before .before .before .before .before .before .pre .2 in
     let k = l .inv .1 in
     let room : Room (l .i + 1) (l .c) (l .t) (l .j) (l .e) (l .key) =
-        record {
-          long-c = omega (arith, k .same-c, p .long-c);
-          long-t = omega (arith, k .same-t, p .long-t);
-          long-j = omega (arith, k .same-j, p .long-j);
-          long-e = omega (arith, k .same-e, p .long-e);
-          long-key = omega (arith, k .same-key, p .long-key);
-        } in
-    (omega arith, kept-next _ _ _ _ _ _ (l .inv .1), progress-next _ _ _ _ _ _ _ room (r .0) (c .before .before .bit-times .ensures ∙ ap (λ (x : Row). bitTimes (x .length)) (r .1)) (ap (λ (x : Row). x .period) (r .1)) (ap (λ (x : Row). x .jitter) (r .1)) (ap allowedTime (r .1))
-    (c .band-key .ensures ∙ ap (λ (x : Row). bandKey (x .queue) (l .i)) (r .1)) (l .inv .2))
+    record {
+      long-c = omega (arith, k .same-c, p .long-c);
+      long-t = omega (arith, k .same-t, p .long-t);
+      long-j = omega (arith, k .same-j, p .long-j);
+      long-e = omega (arith, k .same-e, p .long-e);
+      long-key = omega (arith, k .same-key, p .long-key);
+    } in (
+      omega arith,
+      kept-next _ _ _ _ _ _ (l .inv .1),
+      progress-next _ _ _ _ _ _ _ room (r .0) (c .before .before .bit-times .ensures ∙ ap (λ (x : Row). bitTimes (x .length)) (r .1)) (ap (λ (x : Row). x .period) (r .1)) (ap (λ (x : Row). x .jitter) (r .1)) (ap allowedTime (r .1))
+          (c .band-key .ensures ∙ ap (λ (x : Row). bandKey (x .queue) (l .i)) (r .1)) (l .inv .2),
+    )
 
 returns-2 : tie.Need-returns-2 Inv-loop μ-loop
 returns-2 c =
