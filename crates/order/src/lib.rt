@@ -34,7 +34,15 @@ fn smaller(a: u32, b: u32) -> u32
     if a < b { a } else { b }
 }
 
-// The numbers with one row more, which is of the band, above it or below it.
+// What a row that is not of the band has to block it with: its length if it is below, else nothing.
+fn length_below(c: u32, above: bool) -> u32
+    ensures { λ r. ⌜ r ≡ cond (not above) c 0 ⌝ }
+{
+    if above { 0 } else { c }
+}
+
+// The numbers with one row more, which is of the band, above it or below it. Which of the two latter is no branch: it would be guessed wrong
+// half the time.
 fn with_row(x: Numbers, c: u32, e: u32, own: bool, above: bool) -> Numbers
     requires { ⌜ x .sum + c ≤ top ⌝ }
     ensures { λ r. ⌜ WithRow x c e own above r ⌝ }
@@ -48,11 +56,8 @@ fn with_row(x: Numbers, c: u32, e: u32, own: bool, above: bool) -> Numbers
             tightest: smaller(x.tightest, e),
         };
     }
-    if above {
-        return x;
-    }
     Numbers {
-        blocking: larger(x.blocking, c),
+        blocking: larger(x.blocking, length_below(c, above)),
         longest: x.longest,
         sum: x.sum,
         shortest: x.shortest,

@@ -51,7 +51,7 @@ bit-times-requires : tie.Need-bit-times-requires Inv-loop μ-loop
 bit-times-requires c κs = subst (λ (r : Row). bitTimes (r .length) ≤ 4096) (sym (row-is c .1)) (allowed c .length-le)
 
 sub-e : tie.Need-sub-e Inv-loop μ-loop
-sub-e c = subst (λ (r : Row). r .jitter ≤ r .deadline) (sym (row-is (c .before .before) .1)) (allowed (c .before .before) .jitter-le)
+sub-e c = omega (arith, ap (λ (r : Row). r .jitter) (row-is (c .before .before) .1), ap (λ (r : Row). r .deadline) (row-is (c .before .before) .1), allowed (c .before .before) .jitter-le)
 
 band-key-requires : tie.Need-band-key-requires Inv-loop μ-loop
 unfolding limit

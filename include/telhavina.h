@@ -1,0 +1,66 @@
+/*
+ * telhavina: judges a priority order of the CAN messages on one bus.
+ *
+ * Link with libtelhavina.a. The functions allocate nothing, keep nothing between calls, and need no other library. Every
+ * input is answered or refused by number; nothing has to be checked beforehand.
+ */
+#ifndef TELHAVINA_H
+#define TELHAVINA_H
+
+#include <stddef.h>
+#include <stdint.h>
+
+#ifdef __cplusplus
+extern "C" {
+#endif
+
+/*
+ * A reply: its number, and the numbers that it carries, in order, 0 where there are fewer.
+ *
+ *   number                     first              second   the list lent for the answer
+ *   100  passed                0                  0        the figure of row i at place i
+ *   101  late                  first late place   0        the same, with 0 for each late row
+ *     1  ragged                0                  0        untouched
+ *     2  too many rows         0                  0        untouched
+ *     3  bad row               row                field    untouched
+ *     4  no room               0                  0        untouched
+ *     5  order length          0                  0        untouched
+ *     6  order entry           position           0        untouched
+ *     7  split queue           position           0        untouched
+ *
+ * Rows, places and positions count from 0, fields from 1. Of several refusals the one with the least number is given.
+ */
+typedef struct telhavina_reply {
+    uint32_t number;
+    uint32_t first;
+    uint32_t second;
+} telhavina_reply;
+
+/*
+ * Judges an order.
+ *
+ * table    six words a row, 1 to 64 rows, times in bit times of the bus:
+ *            1  queue            0 = priority; 1 to 64 = FIFO of that number
+ *            2  form of length   0 = bit times; 1 = bytes, 11-bit identifier; 2 = bytes, 29-bit identifier
+ *            3  size             form 0: 1 to 4,096; forms 1 and 2: 0 to 8
+ *            4  period T         1 to 1,000,000
+ *            5  deadline D       1 to T
+ *            6  jitter J         0 to D
+ * order    the row numbers, highest priority first: each row once, the rows of a FIFO next to each other
+ * figures  room for a word a row, or more. Places past the last row are never written.
+ *
+ * Each list is a pointer, aligned and not null, and then its length in words; of a list of length 0 nothing is read. The
+ * list of figures may overlap neither of the others.
+ *
+ * The figure of a row is the longest time from queuing to wholly sent; a row is late where no figure is within D - J (for a
+ * row of a FIFO, within the least D - J of its queue).
+ */
+telhavina_reply telhavina_judge(const uint32_t *table, size_t table_len,
+                                const uint32_t *order, size_t order_len,
+                                uint32_t *figures, size_t figures_len);
+
+#ifdef __cplusplus
+}
+#endif
+
+#endif
