@@ -111,19 +111,22 @@ joined words order before after a {n} {c} {t} {j} {e} {key} x h =
 pub held : (words : List ℕ) (room : ℕ) {n : ℕ} {c t j e key : List ℕ} → Room limit c t j e key → TakenIn words room n c t j e key → Held n c t j e key
 held words room {n} {c} {t} {j} {e} {key} long x =
     record {
-      numbers =
+      rates =
           record {
-            rates =
-                record {
-                  long-c = omega (arith, long .long-c, few);
-                  long-t = omega (arith, long .long-t, few);
-                  long-j = omega (arith, long .long-j, few);
-                  c-most = λ k l. omega (arith, x .holds .is-C k l, row k l .length-le);
-                  t-least = λ k l. omega (arith, x .holds .is-T k l, row k l .period-pos);
-                  t-most = λ k l. omega (arith, x .holds .is-T k l, row k l .period-le);
-                  j-most = λ k l. omega (arith, x .holds .is-J k l, row k l);
-                };
-            lengths = record { few = few; long-c = omega (arith, long .long-c, few); long-e = omega (arith, long .long-e, few); c-most = λ k l. omega (arith, x .holds .is-C k l, row k l .length-le) };
+            long-c = omega (arith, long .long-c, few);
+            long-t = omega (arith, long .long-t, few);
+            long-j = omega (arith, long .long-j, few);
+            c-most = λ k l. omega (arith, x .holds .is-C k l, row k l .length-le);
+            t-least = λ k l. omega (arith, x .holds .is-T k l, row k l .period-pos);
+            t-most = λ k l. omega (arith, x .holds .is-T k l, row k l .period-le);
+            j-most = λ k l. omega (arith, x .holds .is-J k l, row k l);
+          };
+      lengths =
+          record {
+            few = few;
+            long-c = omega (arith, long .long-c, few);
+            long-e = omega (arith, long .long-e, few);
+            c-most = λ k l. omega (arith, x .holds .is-C k l, row k l .length-le);
             e-most = λ k l. omega (arith, x .holds .is-E k l, row k l);
           };
       some-bits = λ k l. omega (arith, x .holds .is-C k l, row k l .length-pos);

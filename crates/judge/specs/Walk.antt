@@ -1,18 +1,19 @@
 -- What the functions of this crate answer about an order and a table held in columns. Definitions only.
 -- Assumes nothing.
-use Prim.Native.Nat.{ℕ, _+_, _≤_, _<_}
+use Prim.Native.Nat.{ℕ, _+_, _-_, _≤_, _<_}
+use mathlib.Core.Logic.{_⊎_}
 use mathlib.Core.Path.{_≡_}
 use mathlib.Core.List.{List}
 use lib.ListN.{length}
 use lib.Dec.{eqb}
 use Rattle.sums.specs.Masks.{Mask, Place, at, nowhere}
-use Rattle.sums.specs.Columns.{at as entry}
+use Rattle.sums.specs.Columns.{Columns, at as entry}
 use Rattle.licence.specs.Limit.{limit}
 use Rattle.order.specs.Table.{Table}
 use Rattle.order.specs.Orders.{badEntry, Together}
 use Rattle.order.specs.Split.{None}
-use Rattle.order.specs.Marks.{Marked}
-use Rattle.order.specs.Sheet.{Sheet, sheet}
+use Rattle.order.specs.Marks.{Marked, shownBefore}
+use Rattle.order.specs.Sheet.{sheet, Lengths, Gathered, BandVerdict}
 use Rattle.intake.specs.Answer.{Answer, Replied}
 use Rattle.judge.specs.Judged.{orderRefusal, ShownAt, Answered}
 use Rattle.order.specs.declared.Verdict.{Verdict}
@@ -38,7 +39,8 @@ pub record Keyed (n : ℕ) (key : List ℕ) : Type 0 where
 
 -- a table in columns, with numbers as document 01 allows them
 pub record Held (n : ℕ) (c t j e key : List ℕ) : Type 0 where
-  pub numbers : Sheet n c t j e
+  pub rates : Columns n c t j
+  pub lengths : Lengths n c e
   pub some-bits : (k : ℕ) → k < n → 1 ≤ entry c k
   pub keys : Keyed n key
 
@@ -57,13 +59,30 @@ pub record Sound (n : ℕ) (τ : Table) (order : List ℕ) : Type 0 where
   pub entries : None n (badEntry n order)
   pub together : Together τ order
 
--- midway along the order, at place p: the rows before it are flagged, and have their figures
-pub record Midway (n : ℕ) (c t j e key order flags figures : List ℕ) (p : ℕ) : Type 0 where
-  pub held : Held n c t j e key
-  pub sound : Sound n (sheet n c t j e key) order
-  pub inside : p < n
-  pub marked : Marked (λ i. i) order flags n p
+-- what a step along the order needs at place p: flags for the rows before it, and C, T and J of those rows in gc, gt and gj
+pub record Step (n : ℕ) (c e key order flags figures gc gt gj : List ℕ) (p : ℕ) : Type 0 where
+  pub lengths : Lengths n c e
+  pub keys : Keyed n key
+  pub range : InRange n order
+  pub long-flags : n ≤ length flags
+  pub rates : Columns p gc gt gj
   pub room : n ≤ length figures
+  pub inside : p < n
+
+-- place p is of the band of the place before it
+abbrev pub Goes : (key order : List ℕ) (p : ℕ) → Type 0
+Goes key order p = (0 < p) × (entry key (entry order (p - 1)) ≡ entry key (entry order p))
+
+-- what a step gives for the row at place p: what stands for the place before it if the band goes on, else its band's verdict
+abbrev pub StepGives : (n : ℕ) (c e key order flags figures gc gt gj : List ℕ) (p R : ℕ) → Type 0
+StepGives n c e key order flags figures gc gt gj p R =
+    (Goes key order p × (R ≡ entry figures (entry order (p - 1))))
+    ⊎ ((Goes key order p → ⊥) × (v : Verdict) × BandVerdict n c e key flags (entry key (entry order p)) p gc gt gj v × (R ≡ shownAs v))
+
+-- midway along the order, at place p: the rows before it are flagged and gathered, and have their figures
+pub record Midway (n : ℕ) (c t j e key order flags figures gc gt gj : List ℕ) (p : ℕ) : Type 0 where
+  pub marked : Marked (λ i. i) order flags n p
+  pub gathered : Gathered n (entry c) (entry t) (entry j) (shownBefore (λ i. i) order p) p gc gt gj
   pub shown : (x : ℕ) → x < p → ShownAt (sheet n c t j e key) order x (entry figures (entry order x))
 
 -- judging an order over a table in columns: what the checks of the order refuse, and else the answer

@@ -8,8 +8,8 @@ ghost use Rattle.licence.specs.Limit.{limit};
 ghost use Rattle.order.specs.Orders.{badEntry, resumes};
 ghost use Rattle.order.specs.Marks.{Marked};
 ghost use Rattle.order.specs.Sheet.{sheet};
-ghost use Rattle.judge.specs.Judged.{judgementAnswer, ShownAt, Written, Judged};
-ghost use Rattle.judge.specs.Walk.{placeOf, InRange, Keyed, Held, Sound, shownAs, zeroAt, Midway, OrderJudged};
+ghost use Rattle.judge.specs.Judged.{judgementAnswer, Written, Judged};
+ghost use Rattle.judge.specs.Walk.{placeOf, InRange, Keyed, Held, Sound, shownAs, zeroAt, Step, StepGives, OrderJudged};
 
 // The answer to an order, or why it is refused.
 pub enum Judgement {
@@ -114,21 +114,22 @@ fn shown(v: order::Verdict) -> u32
     }
 }
 
-// What stands for the row at place p: that of the place before it if it is of the same band, else the band is judged.
+// What stands for the row at place p: that of the place before it if the band goes on, else the band is judged.
 fn figure_at(
     n: usize,
     c: &[u32],
-    t: &[u32],
-    j: &[u32],
     e: &[u32],
     key: &[u32],
     order: &[u32],
     before: &[u32],
     figures: &[u32],
+    gc: &[u32],
+    gt: &[u32],
+    gj: &[u32],
     p: usize,
 ) -> u32
-    requires { ⌜ Midway n (now c) (now t) (now j) (now e) (now key) (now order) (now before) (now figures) p ⌝ }
-    ensures { λ r. ⌜ ShownAt (sheet n (now (c .entry)) (now (t .entry)) (now (j .entry)) (now (e .entry)) (now (key .entry))) (now (order .entry)) p r ⌝ }
+    requires { ⌜ Step n (now c) (now e) (now key) (now order) (now before) (now figures) (now gc) (now gt) (now gj) p ⌝ }
+    ensures { λ r. ⌜ StepGives n (now (c .entry)) (now (e .entry)) (now (key .entry)) (now (order .entry)) (now (before .entry)) (now (figures .entry)) (now (gc .entry)) (now (gt .entry)) (now (gj .entry)) p r ⌝ }
 {
     let band = key_at(key, order, n, p);
     if 0 < p {
@@ -137,10 +138,10 @@ fn figure_at(
             return figures[last];
         }
     }
-    shown(order::judge_band(n, c, t, j, e, key, before, band))
+    shown(order::judge_band(n, c, e, key, before, band, p, gc, gt, gj))
 }
 
-// Writes what stands for each row.
+// Writes what stands for each row, and gathers C, T and J of the rows passed: they are above those to come.
 fn fill(
     n: usize,
     c: &[u32],
@@ -155,11 +156,17 @@ fn fill(
     ensures { λ r. ⌜ Written (sheet n (now (c .entry)) (now (t .entry)) (now (j .entry)) (now (e .entry)) (now (key .entry))) (now (order .entry)) (now (figures .entry)) (now (figures .exit)) ⌝ }
 {
     let mut before = [0u32; licence::LIMIT];
+    let mut gc = [0u32; licence::LIMIT];
+    let mut gt = [0u32; licence::LIMIT];
+    let mut gj = [0u32; licence::LIMIT];
     let mut p: usize = 0;
     while p < n {
         let m = row_at(order, n, p);
-        figures[m] = figure_at(n, c, t, j, e, key, order, &before, figures, p);
+        figures[m] = figure_at(n, c, e, key, order, &before, figures, &gc, &gt, &gj, p);
         before[m] = 1;
+        gc[p] = c[m];
+        gt[p] = t[m];
+        gj[p] = j[m];
         p += 1;
     }
 }

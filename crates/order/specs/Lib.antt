@@ -9,3 +9,4 @@ pub mod Bands
 pub mod Split
 pub mod Sheet
 pub mod Marks
+pub mod Gathering

@@ -21,6 +21,20 @@ use Rattle.order.specs.Places.{take-at, at-take}
 abbrev pub shownBefore : (show : ℕ → ℕ) (o : List ℕ) (p : ℕ) → Mask
 shownBefore show o p x = anyBelow p (λ i. eqb (show (at o i)) x)
 
+pub none-shown : (show : ℕ → ℕ) (o : List ℕ) (x : ℕ) → Is (shownBefore show o 0 x) → ⊥
+unfolding anyBelow
+none-shown show o x h = h
+
+pub shown-next : (show : ℕ → ℕ) (o : List ℕ) (p x : ℕ) → shownBefore show o (p + 1) x ≡ (shownBefore show o p x || eqb (show (at o p)) x)
+unfolding anyBelow
+shown-next show o p x = rw add-one
+
+pub shown-here : (show : ℕ → ℕ) (o : List ℕ) (p x : ℕ) → show (at o p) ≡ x → shownBefore show o (p + 1) x ≡ true
+shown-here show o p x e = shown-next show o p x ∙ (ap (λ (b : Bool). shownBefore show o p x || b) (eq-eqb (show (at o p)) x e) ∙ or-true (shownBefore show o p x))
+
+pub shown-else : (show : ℕ → ℕ) (o : List ℕ) (p x : ℕ) → (show (at o p) ≡ x → ⊥) → shownBefore show o (p + 1) x ≡ shownBefore show o p x
+shown-else show o p x e = shown-next show o p x ∙ (ap (λ (b : Bool). shownBefore show o p x || b) (ne-eqb (show (at o p)) x e) ∙ or-false (shownBefore show o p x))
+
 -- the flags below `most` are up at what the places before p show
 pub record Marked (show : ℕ → ℕ) (o flags : List ℕ) (most p : ℕ) : Type 0 where
   pub long : most ≤ length flags
@@ -32,16 +46,11 @@ marked-none show o size most l =
     record { long = subst (λ (x : ℕ). most ≤ x) (sym (length-replicate size 0)) l; up = λ x i. ap (λ (y : ℕ). eqb y 1) (getD-replicate size x 0 0 (omega arith)) }
 
 pub marked-next : (show : ℕ → ℕ) (o flags : List ℕ) (most p m : ℕ) → m < most → m ≡ show (at o p) → Marked show o flags most p → Marked show o (set flags m 1) most (p + 1)
-unfolding anyBelow
-marked-next show o flags most p m l e h = record { long = subst (λ (x : ℕ). most ≤ x) (sym (length-set flags m 1)) (h .long); up = λ x i. rw add-one (go x i (ℕ-discrete x m)) }
+marked-next show o flags most p m l e h = record { long = subst (λ (x : ℕ). most ≤ x) (sym (length-set flags m 1)) (h .long); up = λ x i. go x i (ℕ-discrete x m) }
   where
-    go : (x : ℕ) → x < most → Dec (x ≡ m) → flagged (set flags m 1) x ≡ (shownBefore show o p x || eqb (show (at o p)) x)
-    go x i (yes q) =
-        ap (λ (y : ℕ). eqb y 1) (ap (at (set flags m 1)) q ∙ getD-set-same flags m 1 0 (omega (arith, h .long)))
-        ∙ sym (ap (λ (b : Bool). shownBefore show o p x || b) (eq-eqb (show (at o p)) x (sym (q ∙ e))) ∙ or-true (shownBefore show o p x))
-    go x i (no q) =
-        ap (λ (y : ℕ). eqb y 1) (getD-set-other flags m x 1 0 q)
-        ∙ (h .up x i ∙ sym (ap (λ (b : Bool). shownBefore show o p x || b) (ne-eqb (show (at o p)) x (λ d. q (sym (e ∙ d)))) ∙ or-false (shownBefore show o p x)))
+    go : (x : ℕ) → x < most → Dec (x ≡ m) → flagged (set flags m 1) x ≡ shownBefore show o (p + 1) x
+    go x i (yes q) = ap (λ (y : ℕ). eqb y 1) (ap (at (set flags m 1)) q ∙ getD-set-same flags m 1 0 (omega (arith, h .long))) ∙ sym (shown-here show o p x (sym (q ∙ e)))
+    go x i (no q) = ap (λ (y : ℕ). eqb y 1) (getD-set-other flags m x 1 0 q) ∙ (h .up x i ∙ sym (shown-else show o p x (λ d. q (sym (e ∙ d)))))
 
 -- rows: the flags are up at the rows that stand before p
 pub marked-rows : (o : List ℕ) (p k : ℕ) → p ≤ length o → shownBefore (λ i. i) o p k ≡ mem (take p o) k

@@ -86,6 +86,18 @@ sum-mono = over-mono _+_ (λ a b c d h k. add-le-add h k)
 pub max-mono : (n : ℕ) (m m′ : Mask) (f f′ : ℕ → ℕ) → ((k : ℕ) → k < n → Is (m k) → Is (m′ k)) → ((k : ℕ) → k < n → Is (m k) → f k ≤ f′ k) → maxOver n m f ≤ maxOver n m′ f′
 max-mono = over-mono max max-le-max
 
+-- a mask with one row more
+pub sum-insert : (n : ℕ) (m m′ : Mask) (f : ℕ → ℕ) (x : ℕ) → x < n → m x ≡ false → m′ x ≡ true → ((k : ℕ) → k < n → (k ≡ x → ⊥) → m′ k ≡ m k) → sumOver n m′ f ≡ sumOver n m f + f x
+unfolding over
+sum-insert zero m m′ f x l out in′ h = absurd (omega arith)
+sum-insert (suc n) m m′ f x l out in′ h = go (eq-or-lt-of-le (le-of-suc-le-suc l)) (λ i. sum-insert n m m′ f x i out in′ (λ k b. h k (omega arith)))
+  where
+    go : (x ≡ n) ⊎ (x < n) → (x < n → sumOver n m′ f ≡ sumOver n m f + f x) → sumOver n m′ f + cond (m′ n) (f n) 0 ≡ sumOver n m f + cond (m n) (f n) 0 + f x
+    go (inl e) ih =
+        let a = over-same _+_ 0 n m′ m f f (λ k b. h k (omega arith) (λ q. absurd (omega arith))) (λ k b. refl) in
+        rw (← e, out, in′) (omega (arith, ap (λ (y : ℕ). sumOver y m′ f) e, ap (λ (y : ℕ). sumOver y m f) e))
+    go (inr i) ih = let a = ih i in rw (h n (le-refl (suc n)) (λ q. absurd (omega arith))) (omega arith)
+
 -- ---- sum, greatest and least have bounds
 
 cond-most : (b : Bool) (x v : ℕ) → x ≤ v → cond b x 0 ≤ v

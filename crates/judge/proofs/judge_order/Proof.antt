@@ -68,7 +68,7 @@ judge-order-spec =
     tie.close
     (tie.spec
     returns
-    (λ c κs. (c .before .before .before .before .before .before .before .before .pre .0 .numbers .lengths .few, omega arith))
+    (λ c κs. (c .before .before .before .before .before .before .before .before .pre .0 .lengths .few, omega arith))
     (λ c. search needs)
     returns-2
     (λ c. search needs)
