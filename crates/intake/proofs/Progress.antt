@@ -1,15 +1,13 @@
 -- What reading the rows one by one keeps. Assumes nothing.
-use Prim.Native.Nat.{ℕ, _+_, _-_, _≤_, _<_}
+use Prim.Native.Nat.{ℕ, _+_, _-_, _<_}
 use native.Mathlib.Omega.{arith}
-use mathlib.Core.Path.{_≡_, refl, sym, ap, subst, _∙_}
+use mathlib.Core.Path.{_≡_, sym, subst}
 use mathlib.Core.List.{List}
 use lib.ListN.{length, set, length-set}
 use lib.Dec.{T as Is, eqb, eqb→eq, eqb-refl, T-not, not-T}
 use borrow.Author.Count.{below-more}
-use Rattle.sums.specs.Columns.{at}
 use Rattle.sums.specs.ColumnLaws.{set-below}
-use Rattle.licence.specs.Row.{rowAt, badField}
-use Rattle.order.specs.Table.{Table}
+use Rattle.licence.specs.Row.{badField}
 use Rattle.intake.specs.Words.{badRow, tableOf}
 use Rattle.intake.specs.Holds.{Holds, Room}
 

@@ -11,7 +11,6 @@ use Rattle.order.specs.Table.{Table}
 use Rattle.intake.specs.Words.{rows, badRow, tableOf}
 use Rattle.intake.specs.Answer.{answer, refusalAnswer, refused, fine}
 use Rattle.intake.specs.Refusals.{tableRefusal}
-use Rattle.intake.specs.declared.Refusal.{Refusal}
 use Rattle.intake.specs.declared.Intake.{Intake}
 use Rattle.intake.specs.declared.Intake.the-variants.{Rows, Refused}
 

@@ -11,7 +11,7 @@ use Rattle.sums.specs.Masks.{lowest}
 use Rattle.sums.specs.Columns.{at}
 use Rattle.order.specs.Table.{Table}
 use Rattle.order.specs.Orders.{badEntry, resumes, PassesAt, FigureAt}
-use Rattle.intake.specs.Words.{rows, tableOf}
+use Rattle.intake.specs.Words.{tableOf}
 use Rattle.intake.specs.Answer.{Answer, answer, refusalAnswer, Check, refuseIf, refuseAt, _then_, Replied}
 use Rattle.intake.specs.Refusals.{tableRefusal}
 use Rattle.judge.specs.declared.Judgement.{Judgement}

@@ -6,11 +6,11 @@ use native.Mathlib.Decide.{decLt}
 use native.Mathlib.Omega.{arith}
 use mathlib.Core.Path.{_≡_, refl, sym, ap, _∙_, subst}
 use mathlib.Core.Logic.{_⊎_, inl, inr, _↔_}
-use mathlib.Core.Bool.{Bool, true, false}
+use mathlib.Core.Bool.{Bool, true, false, cond}
 use mathlib.Core.List.{List}
 use lib.ListN.{length}
 use lib.Seq.{ext-getD}
-use lib.Dec.{eqb-refl, lit≤}
+use lib.Dec.{eqb, eqb-refl, lit≤}
 use Rattle.sums.specs.Masks.{Place, at as found, nowhere}
 use Rattle.sums.specs.Columns.{at}
 use Rattle.order.specs.Table.{Table}
@@ -19,13 +19,21 @@ use Rattle.order.specs.Figures.{figure-one, figure-passes, figure-pos}
 use Rattle.intake.specs.Words.{rows, tableOf}
 use Rattle.intake.specs.Answer.{Answer, answer, Check, refused, fine, refuseIf, refuseAt, _then_}
 use Rattle.intake.specs.Refusals.{tableRefusal}
-use Rattle.judge.specs.Judged.{orderRefusal, refusal, LateAt, ShownAt, Written, AllPassed, SomeLate, Judged}
+use Rattle.judge.specs.Judged.{judgementAnswer, orderRefusal, refusal, LateAt, ShownAt, Written, AllPassed, SomeLate, Judged}
+use Rattle.intake.specs.declared.Refusal.the-variants.{Ragged, TooMany, BadRow, NoRoom, OrderLength, OrderEntry, SplitQueue}
+use Rattle.judge.specs.declared.Judgement.{Judgement}
+use Rattle.judge.specs.declared.Judgement.the-variants.{Passed, Late, Refused}
 use Rattle.judge.specs.Fine.{Fine, fine-order, some-bits, entry-row, place-of}
 
 -- For any table, order and lent list, the statement of judging allows no two answers and no two lists afterwards.
 abbrev pub OneOutcome : Type 0
 OneOutcome = (words order before after after′ : List ℕ) (a a′ : Answer)
     → Judged words order before after a → Judged words order before after′ a′ → (a ≡ a′) × (after ≡ after′)
+
+-- The same of the enum that `judge` answers.
+abbrev pub OneJudgement : Type 0
+OneJudgement = (words order before after after′ : List ℕ) (r r′ : Judgement)
+    → Judged words order before after (judgementAnswer r) → Judged words order before after′ (judgementAnswer r′) → (r ≡ r′) × (after ≡ after′)
 
 -- Where nothing is refused, the row at a place has the word 0 exactly if its band is late.
 abbrev pub ZeroExactlyLate : Type 0
@@ -124,6 +132,36 @@ one-outcome words order before after after′ a a′ j j′ = go (refusal words 
         let x = j .answering e in
         let y = j′ .answering e in
         (one-verdict (tableOf words) order (x .verdict) (y .verdict), one-list (tableOf words) order (place-of known) (x .written) (y .written))
+
+-- each case of the enum has an answer of its own
+told : Answer → Judgement
+told a =
+    cond (eqb (a .number) 100) Passed
+    (cond (eqb (a .number) 101) (Late (a .first))
+    (Refused
+    (cond (eqb (a .number) 1) Ragged
+    (cond (eqb (a .number) 2) TooMany
+    (cond (eqb (a .number) 3) (BadRow (a .first) (a .second))
+    (cond (eqb (a .number) 4) NoRoom
+    (cond (eqb (a .number) 5) OrderLength
+    (cond (eqb (a .number) 6) (OrderEntry (a .first)) (SplitQueue (a .first))))))))))
+
+told-answer : (r : Judgement) → told (judgementAnswer r) ≡ r
+unfolding told
+told-answer Passed = refl
+told-answer (Late p) = refl
+told-answer (Refused Ragged) = refl
+told-answer (Refused TooMany) = refl
+told-answer (Refused (BadRow i f)) = refl
+told-answer (Refused NoRoom) = refl
+told-answer (Refused OrderLength) = refl
+told-answer (Refused (OrderEntry p)) = refl
+told-answer (Refused (SplitQueue p)) = refl
+
+pub one-judgement : OneJudgement
+one-judgement words order before after after′ r r′ j j′ =
+    let x = one-outcome words order before after after′ (judgementAnswer r) (judgementAnswer r′) j j′ in
+    (sym (told-answer r) ∙ (ap told (x .0) ∙ told-answer r′), x .1)
 
 pub zero-exactly-late : ZeroExactlyLate
 zero-exactly-late words order before after a j e p l =

@@ -1,13 +1,12 @@
 -- The five numbers of a band, row by row. Assumes nothing.
 use Prim.Native.Nat.{ℕ, _+_, _*_, _≤_, _<_, max, min}
-use native.Mathlib.Nat.{le-trans}
 use native.Mathlib.Omega.{arith}
 use mathlib.Core.Path.{_≡_, sym, subst, _∙_}
 use mathlib.Core.List.{List}
-use mathlib.Core.Bool.{Bool, not, _&&_}
+use mathlib.Core.Bool.{not, _&&_}
 use lib.Dec.{T as Is, eqb, eqb-refl}
 use Rattle.sums.specs.Columns.{at}
-use Rattle.sums.specs.Masks.{Mask, except}
+use Rattle.sums.specs.Masks.{Mask}
 use Rattle.sums.specs.Sums.{sumOver, maxOver, minFrom}
 use Rattle.sums.specs.Laws.{over-none, over-next, sum-bound, sum-ge, max-bound, min-le, min-over}
 use Rattle.order.specs.Sheet.{Band, ownOf, NumbersAre, top, WithRow}

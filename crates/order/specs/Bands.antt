@@ -2,27 +2,24 @@
 -- the same rows below.
 -- Assumes nothing.
 use Prim.Native.Nat.{ℕ, suc, _≤_, _<_}
-use native.Mathlib.Nat.{le-of-suc-le-suc, eq-or-lt-of-le}
+use native.Mathlib.Nat.{eq-or-lt-of-le}
 use native.Mathlib.Decide.{decLt}
 use native.Mathlib.Omega.{arith}
 use mathlib.Core.Path.{_≡_, refl, sym, ap, _∙_, subst}
 use mathlib.Core.Logic.{_⊎_, inl, inr}
 use mathlib.Core.List.{List}
-use mathlib.Core.Bool.{Bool, not, _&&_}
+use mathlib.Core.Bool.{not, _&&_}
 use lib.ListN.{length, take, drop}
-use lib.Dec.{T as Is, eqb, eqb→eq, eqb-refl, T-not, not-T}
-use Rattle.sums.specs.Masks.{Mask, except}
+use lib.Dec.{T as Is, eqb, eqb-refl, T-not, not-T}
+use Rattle.sums.specs.Masks.{except}
 use Rattle.sums.specs.MaskLaws.{and-left, and-right, and-intro, same-test}
 use Rattle.sums.specs.Columns.{at}
 use Rattle.order.specs.Table.{Table, band, MIN, leastE, F}
 use Rattle.order.specs.Orders.{mem, Order, keyAt, Together, own, above, below}
 use Rattle.order.specs.Places.{take-at, at-take, drop-at, at-drop, mem-cut, no-repeat-cut}
-use Rattle.order.specs.Same.{SameRows, same}
+use Rattle.order.specs.Same.{same}
 
 module _ (τ : Table) where
-  pub band-elim : (b k : ℕ) → Is (band τ b k) → τ .key k ≡ b
-  band-elim b k h = eqb→eq (τ .key k) b h
-
   pub band-intro : (b k : ℕ) → τ .key k ≡ b → Is (band τ b k)
   band-intro b k e = subst (λ (x : ℕ). Is (eqb (τ .key k) x)) e (eqb-refl (τ .key k))
 

@@ -1,17 +1,17 @@
 -- A band passes exactly when it has a figure, the figure is one and at least 1, and for a priority row F, MIN and the least E are the
 -- formulas of the text.
 -- Assumes nothing.
-use Prim.Native.Nat.{ℕ, zero, suc, _+_, _-_, _*_, _≤_, _<_, max, min}
+use Prim.Native.Nat.{ℕ, _+_, _-_, _*_, _≤_, _<_, max, min}
 use native.Mathlib.Nat.{le-trans}
 use native.Mathlib.Omega.{arith}
-use mathlib.Core.Path.{_≡_, refl, sym, ap, _∙_, subst}
+use mathlib.Core.Path.{_≡_, refl, ap, _∙_}
 use lib.Dec.{T as Is}
 use Rattle.sums.specs.Masks.{Mask}
-use Rattle.sums.specs.Sums.{over, sumOver, maxOver, minOver, ceil, load, demand}
+use Rattle.sums.specs.Sums.{sumOver, maxOver, minOver, ceil, load, demand}
 use Rattle.sums.specs.Laws.{demand-grows, min-ge, max-ge, over-alone}
 use Rattle.sums.specs.Least.{Least, Fits}
 use Rattle.sums.specs.Climb.{least-fits, least-one}
-use Rattle.order.specs.Table.{Table, B, MAX, SUM, MIN, leastE, base, F, Passes, FigureIs, Figure}
+use Rattle.order.specs.Table.{Table, B, MIN, leastE, base, F, Passes, FigureIs, Figure}
 
 pub figure-one : (F : ℕ → ℕ) (m e : ℕ) {R R′ : ℕ} → FigureIs F m e R → FigureIs F m e R′ → R ≡ R′
 figure-one F m e p q = omega (arith, p .is, q .is, least-one F (p .least) (q .least))

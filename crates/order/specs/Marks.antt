@@ -1,11 +1,11 @@
 -- Flags as a walk along an order leaves them: up at each number that some earlier place has shown.
 -- Assumes nothing.
-use Prim.Native.Nat.{ℕ, zero, suc, _+_, _≤_, _<_}
+use Prim.Native.Nat.{ℕ, _+_, _≤_, _<_}
 use native.Mathlib.Decide.{ℕ-discrete}
 use native.Mathlib.Numerals.{add-one}
 use native.Mathlib.Omega.{arith}
-use mathlib.Core.Path.{_≡_, refl, sym, ap, subst, _∙_}
-use mathlib.Core.Bool.{Bool, true, false, not, _||_, or-false, or-true}
+use mathlib.Core.Path.{_≡_, sym, ap, subst, _∙_}
+use mathlib.Core.Bool.{Bool, true, _||_, or-false, or-true}
 use mathlib.Core.List.{List}
 use lib.ListN.{length, set, length-set, take, replicate, length-replicate, getD-replicate}
 use lib.Seq.{getD-set-same, getD-set-other}

@@ -1,13 +1,12 @@
 -- The equation of a band looks only at the rows below n: tables and masks that agree there have one F, one MIN and one least E, and so one
 -- verdict and one figure.
 -- Assumes nothing.
-use Prim.Native.Nat.{ℕ, _+_, _-_, _≤_, _<_, max, min}
-use mathlib.Core.Path.{_≡_, refl, sym, ap, ap₂, _∙_, subst₃, fun-ext}
-use mathlib.Core.Bool.{Bool}
+use Prim.Native.Nat.{ℕ, _+_, _-_, _<_, max, min}
+use mathlib.Core.Path.{_≡_, ap, _∙_, subst₃, fun-ext}
 use Rattle.sums.specs.Masks.{Mask}
-use Rattle.sums.specs.Sums.{over, sumOver, maxOver, minFrom, minOver, demand}
+use Rattle.sums.specs.Sums.{maxOver, minFrom, minOver}
 use Rattle.sums.specs.Laws.{over-same, demand-same}
-use Rattle.order.specs.Table.{Table, B, MAX, SUM, MIN, leastE, base, F}
+use Rattle.order.specs.Table.{Table, MIN, leastE, base, F}
 
 min-same : (n : ℕ) (m m′ : Mask) (f f′ : ℕ → ℕ) → ((k : ℕ) → k < n → m k ≡ m′ k) → ((k : ℕ) → k < n → f k ≡ f′ k) → minOver n m f ≡ minOver n m′ f′
 min-same n m m′ f f′ hm hf = ap (λ (d : ℕ). minFrom d n m f) (over-same max 0 n m m′ f f′ hm hf) ∙ over-same min (maxOver n m′ f′) n m m′ f f′ hm hf

@@ -1,22 +1,20 @@
 -- What the checks of an order tell: with n entries and none bad it is an order, and where no place resumes a band, queues are kept
 -- together.
 -- Assumes nothing.
-use Prim.Native.Nat.{ℕ, zero, suc, _+_, _-_, _≤_, _<_}
-use native.Mathlib.Nat.{eq-or-lt-of-le}
+use Prim.Native.Nat.{ℕ, zero, suc, _+_, _-_, _<_}
 use native.Mathlib.Decide.{decLt, ℕ-discrete}
 use native.Mathlib.Omega.{arith}
 use borrow.Author.Count.{below-more}
-use mathlib.Core.Path.{_≡_, refl, sym, ap, _∙_, subst}
-use mathlib.Core.Logic.{_⊎_, inl, inr}
+use mathlib.Core.Path.{_≡_, sym, ap, _∙_, subst}
 use mathlib.Core.List.{List}
-use mathlib.Core.Bool.{Bool, not, _&&_, _||_}
+use mathlib.Core.Bool.{not}
 use lib.ListN.{length}
 use lib.Dec.{T as Is, eqb, leb, le→leb, eqb→eq, eqb-refl, T-not, not-T}
 use Rattle.sums.specs.Masks.{Mask, anyBelow}
 use Rattle.sums.specs.MaskLaws.{or-left, or-right, and-intro, and-left, and-right, any-intro, any-elim}
 use Rattle.sums.specs.Columns.{at}
 use Rattle.order.specs.Table.{Table}
-use Rattle.order.specs.Orders.{mem, NoRepeat, badEntry, Order, keyAt, resumes, Together}
+use Rattle.order.specs.Orders.{mem, badEntry, Order, keyAt, resumes, Together}
 use Rattle.order.specs.Lists.{mem-at, no-repeat}
 use Rattle.order.specs.Counting.{order-of-length}
 

@@ -4,7 +4,7 @@ use Prim.Native.Nat.{ℕ, zero, suc, _+_, _≤_, _<_, zero-le}
 use native.Mathlib.Nat.{le-trans, le-of-eq, le-antisymm}
 use native.Mathlib.Decide.{ℕ-discrete}
 use native.Mathlib.Omega.{arith}
-use mathlib.Core.Path.{_≡_, sym, subst, _∙_}
+use mathlib.Core.Path.{_≡_, subst}
 use Rattle.sums.specs.Least.{Least, Fits, Grows, SettledIs, DemandIs}
 use Rattle.sums.specs.declared.Settled.{Settled}
 use Rattle.sums.specs.declared.Settled.the-variants.{At, Never}
@@ -28,7 +28,7 @@ arrived F h e = record { solves = e; least = λ v q. h .low v (le-of-eq q) }
 pub too-far : (F : ℕ → ℕ) {w : ℕ} (cap : ℕ) → OnWay F w → cap < w → (v : ℕ) → F v ≡ v → cap < v
 too-far F cap h l v e = let q = h .low v (le-of-eq e) in omega arith
 
-module _ (F : ℕ → ℕ) (grows : (a b : ℕ) → a ≤ b → F a ≤ F b) where
+module _ (F : ℕ → ℕ) (grows : Grows F) where
   pub one-step : {w : ℕ} → OnWay F w → OnWay F (F w)
   one-step {w} h = record { rises = grows w (F w) (h .rises); low = λ v e. le-trans (grows w v (h .low v e)) e }
 
@@ -60,7 +60,7 @@ pub least-one : (F : ℕ → ℕ) {w v : ℕ} → Least F w → Least F v → w 
 least-one F {w} {v} a b = le-antisymm (a .least v (b .solves)) (b .least w (a .solves))
 
 -- a smaller right side, a smaller m and a wider limit keep a solution within the limit, with no greater w
-pub fits-mono : (F G : ℕ → ℕ) (m m′ e e′ : ℕ) → ((a b : ℕ) → a ≤ b → G a ≤ G b) → ((w : ℕ) → G w ≤ F w) → m′ ≤ m → e ≤ e′ → (p : Fits F m e) → (q : Fits G m′ e′) × (q .w ≤ p .w)
+pub fits-mono : (F G : ℕ → ℕ) (m m′ e e′ : ℕ) → Grows G → ((w : ℕ) → G w ≤ F w) → m′ ≤ m → e ≤ e′ → (p : Fits F m e) → (q : Fits G m′ e′) × (q .w ≤ p .w)
 fits-mono F G m m′ e e′ grows le hm he p =
     let x = least-below G grows (p .w) (le-trans (le (p .w)) (le-of-eq (p .solves))) in
     (record { w = x .0; solves = x .1 .solves; within = omega (arith, x .2, p .within) }, x .2)

@@ -5,14 +5,14 @@ use Prim.Native.Nat.{ℕ, zero, suc, _+_, _-_, _*_, _≤_, _<_, max, min, zero-l
 use native.Mathlib.Nat.{le-refl, le-trans, le-antisymm, le-of-eq, mul-one, mul-le-mul, add-le-add, eq-or-lt-of-le, le-of-suc-le-suc}
 use native.Mathlib.Numerals.{add-one}
 use native.Mathlib.Omega.{arith}
-use mathlib.Core.Path.{_≡_, refl, sym, ap, subst, _∙_}
+use mathlib.Core.Path.{_≡_, refl, sym, ap, subst}
 use mathlib.Core.Logic.{_⊎_, inl, inr}
-use mathlib.Core.Bool.{Bool, true, false, not, cond}
+use mathlib.Core.Bool.{Bool, true, false, cond}
 use lib.Dec.{T as Is}
 use Rattle.sums.specs.Masks.{Mask}
 use Rattle.sums.specs.MaskLaws.{is-true, is-false}
-use Rattle.sums.specs.Sums.{over, sumOver, maxOver, minFrom, minOver, ceil, load, demand}
-use Rattle.sums.specs.Quotient.{ceil-mono, ceil-anti, ceil-pos, ceil-bound}
+use Rattle.sums.specs.Sums.{over, sumOver, maxOver, minFrom, minOver, load, demand}
+use Rattle.sums.specs.Quotient.{ceil-mono, ceil-anti, ceil-pos}
 
 -- ---- only the rows below n count
 
@@ -36,10 +36,6 @@ module _ (op : ℕ → ℕ → ℕ) (z : ℕ) where
   pub turn-in : (k : ℕ) (m : Mask) (f : ℕ → ℕ) {x y : ℕ} → m k ≡ true → x ≡ over op z k m f → y ≡ op x (f k) → y ≡ over op z (k + 1) m f
   unfolding over
   turn-in k m f t e h = rw (add-one, t, ← e) h
-
-  pub turn-out : (k : ℕ) (m : Mask) (f : ℕ → ℕ) {x : ℕ} → m k ≡ false → op x z ≡ x → x ≡ over op z k m f → x ≡ over op z (k + 1) m f
-  unfolding over
-  turn-out k m f t u e = rw (add-one, t, ← e) (sym u)
 
 -- ---- no row, and one row
 
@@ -189,10 +185,6 @@ load-grows C T J w w′ k hw = mul-le-mul (le-refl (C k)) (ceil-mono (T k) (omeg
 pub load-once : (C T J : ℕ → ℕ) (w k : ℕ) → 0 < T k → C k ≤ load C T J w k
 unfolding load
 load-once C T J w k p = le-trans (le-of-eq (sym (mul-one (C k)))) (mul-le-mul (le-refl (C k)) (ceil-pos (w + J k + 1) (T k) (omega arith) p))
-
-pub load-bound : (C T J : ℕ → ℕ) (w k c v : ℕ) → 0 < T k → C k ≤ c → w + J k + 1 ≤ v → load C T J w k ≤ c * v
-unfolding load
-load-bound C T J w k c v p hc hv = mul-le-mul hc (le-trans (ceil-bound (w + J k + 1) (T k) p) hv)
 
 pub load-same : (C T J C′ T′ J′ : ℕ → ℕ) (w k k′ : ℕ) → C k ≡ C′ k′ → T k ≡ T′ k′ → J k ≡ J′ k′ → load C T J w k ≡ load C′ T′ J′ w k′
 unfolding load

@@ -1,4 +1,4 @@
--- A row that moves from above to below never raises B + the loads above: B grows by at most its C, and its load, at least C, goes.
+-- A row that moves from above to below never raises max(B, MAX) + the loads above: B grows by at most its C, and its load, at least C, goes.
 -- Assumes nothing.
 use Prim.Native.Nat.{ℕ, zero, suc, _+_, _≤_, _<_, max, zero-le}
 use native.Mathlib.Nat.{le-refl}
@@ -48,3 +48,11 @@ move-sum (suc n) a′ b′ a b c l h p =
     move-one (a′ n) (b′ n) (a n) (b n) (h n (le-refl (suc n))) (c n) (l n) (maxOver n b′ c) (sumOver n a′ l) (maxOver n b c) (sumOver n a l) (p n (le-refl (suc n)))
     (sum-mono n a′ a l l (λ k q. h k (omega arith) .up) (λ k _ _. le-refl (l k)))
     (move-sum n a′ b′ a b c l (λ k q. h k (omega arith)) (λ k q. p k (omega arith)))
+
+-- with any length x of the band's own beside B
+pub move-max : (n x : ℕ) (a′ b′ a b : Mask) (c l : ℕ → ℕ) → ((k : ℕ) → k < n → Moved (a′ k) (b′ k) (a k) (b k)) → ((k : ℕ) → k < n → c k ≤ l k)
+    → max (maxOver n b′ c) x + sumOver n a′ l ≤ max (maxOver n b c) x + sumOver n a l
+move-max n x a′ b′ a b c l h p =
+    let m = move-sum n a′ b′ a b c l h p in
+    let s = sum-mono n a′ a l l (λ k q. h k q .up) (λ k _ _. le-refl (l k)) in
+    omega arith

@@ -1,9 +1,9 @@
 -- Laws of the rounded-up quotient.
 -- Assumes nothing.
-use Prim.Native.Nat.{ℕ, zero, suc, _+_, _-_, _*_, _/_, _≤_, _<_, zero-le, suc-le-suc}
+use Prim.Native.Nat.{ℕ, zero, suc, _+_, _-_, _*_, _≤_, _<_, zero-le, suc-le-suc}
 use native.Mathlib.Nat.{div-lt-iff-lt-mul, le-of-suc-le-suc, zero-mul, mul-one, le-of-eq, le-trans, mul-le-mul-left, div-zero, lt-div-mul-add}
 use native.Mathlib.Omega.{arith}
-use mathlib.Core.Path.{_≡_, sym}
+use mathlib.Core.Path.{sym}
 use Rattle.sums.specs.Sums.{ceil}
 
 pub ceil-le : {a q : ℕ} (t : ℕ) → 0 < t → a ≤ q * t → ceil a t ≤ q

@@ -2,7 +2,7 @@
 -- w. A mask takes the place of a list, so that no sum depends on an order of its terms. Definitions only.
 -- Assumes nothing.
 use Prim.Native.Nat.{ℕ, zero, suc, _+_, _-_, _*_, _/_, max, min}
-use mathlib.Core.Bool.{Bool, true, false, cond}
+use mathlib.Core.Bool.{cond}
 use Rattle.sums.specs.Masks.{Mask}
 
 -- f of the rows below n that m has, put together by op; z where there is none

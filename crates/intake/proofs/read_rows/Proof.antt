@@ -1,15 +1,13 @@
 -- `intake::read_rows` meets its contract: after i rows, all of them can be read and the columns hold them. Assumes nothing.
 use borrow.Author.Needs.{needs}
 use native.Mathlib.Omega.{arith}
-use Prim.Native.Nat.{ℕ, _+_, _*_, _-_, _≤_, _<_}
-use mathlib.Core.Path.{_≡_, refl, sym, ap, ap₂, subst, _∙_}
+use Prim.Native.Nat.{_+_, _-_, _≤_}
+use mathlib.Core.Path.{_≡_, refl, sym, ap, subst, _∙_}
 use Rattle.sums.specs.MaskLaws.{lowest-at, lowest-none}
 use Rattle.licence.specs.Limit.{limit}
 use Rattle.licence.specs.Row.{rowAt, badField, bitTimes, bandKey, allowedTime, fieldOf}
 use Rattle.licence.specs.Laws.{Allowed, row-allowed, read-good, read-bad}
 use Rattle.licence.specs.declared.Row.{Row}
-use Rattle.licence.specs.declared.Length.{Length}
-use Rattle.licence.specs.declared.Reading.{Reading}
 use Rattle.intake.specs.Words.{badRow}
 use Rattle.intake.specs.Answer.{answer}
 use Rattle.intake.specs.Holds.{Room}

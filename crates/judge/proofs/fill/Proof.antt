@@ -1,7 +1,7 @@
 -- `judge::fill` meets its contract: the rows before place p are flagged and gathered, and have their figures. Assumes nothing.
 use borrow.Author.Needs.{needs}
 use native.Mathlib.Omega.{arith}
-use Prim.Native.Nat.{ℕ, _≤_, _<_, _-_}
+use Prim.Native.Nat.{_≤_, _-_}
 use mathlib.Core.Path.{_≡_, refl, sym}
 use lib.ListN.{length, length-set}
 use Rattle.sums.specs.Columns.{at}

@@ -1,7 +1,7 @@
 -- `judge::first_split` meets its contract: no place before p resumes a band, and their keys are flagged. Assumes nothing.
 use borrow.Author.Needs.{needs}
 use native.Mathlib.Omega.{arith}
-use Prim.Native.Nat.{ℕ, _+_, _≤_, _<_, _-_}
+use Prim.Native.Nat.{_+_, _≤_, _-_}
 use mathlib.Core.Path.{_≡_, refl, sym, _∙_}
 use lib.ListN.{length, length-set}
 use Rattle.sums.specs.MaskLaws.{lowest-at, lowest-none}

@@ -3,8 +3,7 @@
 use borrow.Author.Needs.{needs}
 use native.Mathlib.Omega.{arith}
 use native.Mathlib.Nat.{le-refl}
-use mathlib.Core.Path.{_≡_, refl, sym, ap, subst, _∙_}
-use lib.ListN.{length}
+use mathlib.Core.Path.{ap}
 use Rattle.licence.specs.Limit.{limit}
 use Rattle.intake.specs.Words.{tableOf}
 use Rattle.intake.specs.Answer.{Check, _then_}

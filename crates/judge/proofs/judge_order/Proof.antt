@@ -2,8 +2,8 @@
 -- Assumes nothing.
 use borrow.Author.Needs.{needs}
 use native.Mathlib.Omega.{arith}
-use mathlib.Core.Path.{_≡_, refl, sym, ap, _∙_}
-use Rattle.sums.specs.Masks.{at as found, nowhere, lowest}
+use mathlib.Core.Path.{_≡_, sym, ap, _∙_}
+use Rattle.sums.specs.Masks.{nowhere, lowest}
 use Rattle.sums.specs.MaskLaws.{none-lowest}
 use Rattle.sums.specs.Columns.{at}
 use Rattle.order.specs.Table.{Table}

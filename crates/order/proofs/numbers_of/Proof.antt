@@ -1,7 +1,7 @@
 -- `order::numbers_of` meets its contract: after k rows the five numbers are those of the first k rows. Assumes nothing.
 use borrow.Author.Needs.{needs}
 use native.Mathlib.Omega.{arith}
-use Prim.Native.Nat.{ℕ, _≤_, _<_, _-_}
+use Prim.Native.Nat.{_≤_, _-_}
 use mathlib.Core.Path.{_≡_, refl}
 use Rattle.sums.specs.Columns.{at, flagged}
 use Rattle.licence.specs.Limit.{limit}

@@ -3,7 +3,7 @@
 use borrow.Author.Needs.{needs}
 use native.Mathlib.Omega.{arith}
 use Prim.Native.Nat.{_≤_, _<_, _-_, _+_}
-use mathlib.Core.Path.{_≡_, refl, sym, ap₂, _∙_}
+use mathlib.Core.Path.{_≡_, refl, sym, ap₂}
 use Rattle.sums.specs.Columns.{at}
 use Rattle.sums.specs.Masks.{every}
 use Rattle.sums.specs.Sums.{demand, load}
