@@ -1,5 +1,5 @@
--- What follows from the definitions of Limit and Row: the limit's number, the bounds of a row that can be read, what a reading
--- tells, and when two rows have one key. Assumes nothing.
+-- What follows from the definitions of Row: the bounds of a row that can be read, what a reading tells, and when two rows have one key.
+-- Assumes nothing.
 use Prim.Native.Nat.{ℕ, zero, suc, _+_, _≤_, _<_}
 use native.Mathlib.Omega.{arith}
 use mathlib.Core.Bool.{Bool, true, false, cond, not, _&&_, and-eq-true-iff}
@@ -12,13 +12,7 @@ use Rattle.licence.specs.declared.Length.{Length}
 use Rattle.licence.specs.declared.Length.the-variants.{Bits, Std, Ext}
 use Rattle.licence.specs.declared.Reading.the-variants.{Good, Bad}
 use Rattle.licence.specs.declared.Row.{Row}
-use Rattle.licence.specs.Limit.{limit}
 use Rattle.licence.specs.Row.{word, sizeAllowed, firstBad, badField, lengthOf, queueOf, rowAt, readingOf, readAt, bitTimes, bandKey}
-
--- the limit's number, for a proof that computes with it
-pub limit-is : limit ≡ 64
-unfolding limit
-limit-is = refl
 
 -- ---- a row with no bad field
 pub record Allowed (words : List ℕ) (i : ℕ) : Type 0 where

@@ -6,8 +6,7 @@ ghost use lib.Dec.{leb};
 ghost use lib.ListN.{length};
 ghost use Rattle.licence.specs.Row.{word, sizeAllowed, firstBad, lengthOf, queueOf, rowOf, readingOf, readAt, fieldOf, frame, bitTimes, bandKey};
 
-// A table has at most this many rows. A later request raises the limit to 256: then this line, the definition `limit` of
-// specs/Limit.antt and the law `limit-is` move, and nothing else.
+// A table has at most this many rows. The definition is `limit` of specs/Limit.antt: where the two differ, `intake::take_in` is not proved.
 pub const LIMIT: usize = 64;
 
 // More than any band's key: those of FIFOs go to 64, and each row has one past them.
