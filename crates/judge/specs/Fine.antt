@@ -1,24 +1,26 @@
--- What a table and an order are known to be where none of the refusals 1 to 7 is given.
+-- What a table and an order are where none of the refusals 1 to 7 is given: exactly a table of allowed rows and an order that keeps queues
+-- together.
 -- Assumes nothing.
 use Prim.Native.Nat.{ℕ, _≤_, _<_}
 use native.Mathlib.Omega.{arith}
 use mathlib.Core.Path.{_≡_}
+use mathlib.Core.Logic.{_⊎_, inl, inr}
 use mathlib.Core.Bool.{not}
 use mathlib.Core.List.{List}
 use lib.ListN.{length}
-use lib.Dec.{eqb}
-use borrow.Author.Tests.{eqb-true, not-false}
-use Rattle.sums.specs.Masks.{lowest}
-use Rattle.sums.specs.MaskLaws.{none-lowest}
+use lib.Dec.{T as Is, eqb, eqb→eq, leb, leb→le}
+use borrow.Author.Tests.{eq-eqb, eqb-true, not-false}
+use Rattle.sums.specs.Masks.{anyBelow, lowest}
+use Rattle.sums.specs.MaskLaws.{or-cases, any-elim, lowest-none, none-lowest}
 use Rattle.sums.specs.Columns.{at}
 use Rattle.licence.specs.Laws.{row-allowed}
-use Rattle.order.specs.Orders.{badEntry, Order, Together}
-use Rattle.order.specs.Lists.{mem-getD, mem-at}
-use Rattle.order.specs.Split.{order-of, together-of}
-use Rattle.intake.specs.Words.{rows, tableOf}
+use Rattle.order.specs.Orders.{badEntry, resumes, Order, Together}
+use Rattle.order.specs.Lists.{mem-getD, mem-at, one-place}
+use Rattle.order.specs.Split.{None, order-of, together-of, fine-of}
+use Rattle.intake.specs.Words.{rows, badRow, tableOf}
 use Rattle.intake.specs.Answer.{answer, fine, refuseIf, refuseAt}
 use Rattle.intake.specs.Refusals.{tableRefusal}
-use Rattle.intake.specs.Laws.{then-fine, if-fine, at-fine, Accepted, accepted}
+use Rattle.intake.specs.Laws.{then-fine, if-fine, at-fine, refuse-none, Accepted, accepted}
 use Rattle.judge.specs.Judged.{orderRefusal, refusal}
 
 -- the table is accepted, and the order has each of its rows once, with each FIFO kept together
@@ -57,3 +59,25 @@ module _ {words o : List ℕ} {room : ℕ} (known : Fine words o room) where
   place-of k l =
       let (p, inside, stands) = mem-at o k (known .order .every k l) in
       (p, omega arith, stands)
+
+  -- no entry is out of range or a repeat
+  no-bad-entry : None (rows words) (badEntry (rows words) o)
+  unfolding badEntry
+  no-bad-entry p l h = go (or-cases (leb (rows words) (at o p)) (anyBelow p (λ i. eqb (at o i) (at o p))) h)
+    where
+      go : Is (leb (rows words) (at o p)) ⊎ Is (anyBelow p (λ i. eqb (at o i) (at o p))) → ⊥
+      go (inl t) = omega (arith, leb→le (rows words) (at o p) t, entry-row p l)
+      go (inr t) =
+          let (i, before, same) = any-elim p (λ i. eqb (at o i) (at o p)) t in
+          omega (arith, one-place o i p (known .order .once) (omega arith) (omega arith) (eqb→eq (at o i) (at o p) same))
+
+  -- what is fine no check refuses
+  pub order-fine : refusal words o room ≡ fine
+  unfolding orderRefusal
+  order-fine =
+      rw (
+        refuse-none words room (known .accepted .whole) (known .accepted .few) (lowest-none (rows words) (badRow words) (λ k l h. rw (known .accepted .good k l) at h)) (known .accepted .roomy),
+        eq-eqb (length o) (rows words) (known .count),
+        lowest-none (rows words) (badEntry (rows words) o) no-bad-entry,
+        lowest-none (rows words) (resumes (tableOf words .key) o) (fine-of (tableOf words) o (known .count) (known .together)),
+      )
