@@ -48,10 +48,6 @@ module _ (F : ℕ → ℕ) (grows : Grows F) where
     pub least-below : (x : ℕ) × Least F x × (x ≤ v)
     least-below = climb v 0 (omega arith) (from-below F 0 (λ u. zero-le))
 
-  -- the least solution is no greater than any v with F(v) ≤ v
-  pub least-post : {w : ℕ} → Least F w → (v : ℕ) → F v ≤ v → w ≤ v
-  least-post l v post = let x = least-below v post in le-trans (l .least (x .0) (x .1 .solves)) (x .2)
-
   -- where a solution fits, the least one does
   pub least-fits : (m e : ℕ) → Fits F m e → (x : ℕ) × Least F x × (x + m ≤ e)
   least-fits m e p = let x = least-below (p .w) (le-of-eq (p .solves)) in (x .0, x .1, omega (arith, x .2, p .within))

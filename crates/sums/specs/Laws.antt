@@ -5,7 +5,7 @@ use Prim.Native.Nat.{ℕ, zero, suc, _+_, _-_, _*_, _≤_, _<_, max, min, zero-l
 use native.Mathlib.Nat.{le-refl, le-trans, le-antisymm, le-of-eq, mul-one, mul-le-mul, add-le-add, eq-or-lt-of-le, le-of-suc-le-suc}
 use native.Mathlib.Numerals.{add-one}
 use native.Mathlib.Omega.{arith}
-use mathlib.Core.Path.{_≡_, refl, sym, ap, subst}
+use mathlib.Core.Path.{_≡_, refl, sym, ap, subst, _∙_}
 use mathlib.Core.Logic.{_⊎_, inl, inr}
 use mathlib.Core.Bool.{Bool, true, false, cond}
 use lib.Dec.{T as Is}
@@ -23,7 +23,7 @@ module _ (op : ℕ → ℕ → ℕ) (z : ℕ) where
   over-same (suc n) m m′ f f′ hm hf =
       cc (over-same n m m′ f f′ (λ k l. hm k (omega arith)) (λ k l. hf k (omega arith)), hm n (le-refl (suc n)), hf n (le-refl (suc n)))
 
-  -- ---- one row more, as a loop that counts k + 1 has it: x before the turn, y after it
+  -- ---- one row more, as a loop that counts k + 1 has it
 
   pub over-none : (m : Mask) (f : ℕ → ℕ) → over op z 0 m f ≡ z
   unfolding over
@@ -32,10 +32,6 @@ module _ (op : ℕ → ℕ → ℕ) (z : ℕ) where
   pub over-next : (k : ℕ) (m : Mask) (f : ℕ → ℕ) → over op z (k + 1) m f ≡ op (over op z k m f) (cond (m k) (f k) z)
   unfolding over
   over-next k m f = rw add-one
-
-  pub turn-in : (k : ℕ) (m : Mask) (f : ℕ → ℕ) {x y : ℕ} → m k ≡ true → x ≡ over op z k m f → y ≡ op x (f k) → y ≡ over op z (k + 1) m f
-  unfolding over
-  turn-in k m f t e h = rw (add-one, t, ← e) h
 
 -- ---- no row, and one row
 
@@ -153,11 +149,6 @@ module _ (d : ℕ) (m : Mask) (f : ℕ → ℕ) where
       let c = cond-ge (m n) (f n) d v (h n (le-refl (suc n))) b in
       omega arith
 
-  pub min-top : (n : ℕ) → min (minFrom d n m f) d ≡ minFrom d n m f
-  unfolding over
-  min-top zero = omega arith
-  min-top (suc n) = let i = min-top n in omega arith
-
 -- where m has a row, the least does not depend on where it starts
 pub min-start : (d d′ n : ℕ) (m : Mask) (f : ℕ → ℕ) (k : ℕ) → k < n → Is (m k) → f k ≤ d → f k ≤ d′ → minFrom d n m f ≡ minFrom d′ n m f
 min-start d d′ n m f k l h p q = le-antisymm (half d d′ q) (half d′ d p)
@@ -230,7 +221,9 @@ module _ (C T J : ℕ → ℕ) (base : ℕ) (above : Mask) (w : ℕ) where
 
   pub demand-turn : (k : ℕ) {x y : ℕ} → above k ≡ true → x ≡ demand k C T J base above w → y ≡ x + load C T J w k → y ≡ demand (k + 1) C T J base above w
   unfolding demand
-  demand-turn k {x} {y} t e h = omega (arith, turn-in _+_ 0 k above (load C T J w) {x = sumOver k above (load C T J w)} {y = sumOver k above (load C T J w) + load C T J w k} t refl refl)
+  demand-turn k t e h =
+      let s = over-next _+_ 0 k above (load C T J w) ∙ ap (λ (b : Bool). sumOver k above (load C T J w) + cond b (load C T J w k) 0) t in
+      omega arith
 
   -- some of the rows ask no more than all
   pub demand-part : (k n : ℕ) → k ≤ n → demand k C T J base above w ≤ demand n C T J base above w

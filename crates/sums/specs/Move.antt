@@ -7,8 +7,8 @@ use mathlib.Core.Logic.{_⊎_, inl, inr}
 use mathlib.Core.Bool.{Bool, true, false, not, cond}
 use lib.Dec.{T as Is}
 use Rattle.sums.specs.Masks.{Mask}
-use Rattle.sums.specs.Sums.{over, sumOver, maxOver}
-use Rattle.sums.specs.Laws.{sum-mono}
+use Rattle.sums.specs.Sums.{over, sumOver, maxOver, load}
+use Rattle.sums.specs.Laws.{sum-mono, load-once}
 
 -- of one row: above afterwards (a′) only if above before (a); below afterwards (b′) only if below before (b), or if it came from above
 pub record Moved (a′ b′ a b : Bool) : Type 0 where
@@ -40,7 +40,7 @@ move-one false false true false h c l x′ s′ x s p q r = omega arith
 move-one false false false true h c l x′ s′ x s p q r = omega arith
 move-one false false false false h c l x′ s′ x s p q r = omega arith
 
-pub move-sum : (n : ℕ) (a′ b′ a b : Mask) (c l : ℕ → ℕ) → ((k : ℕ) → k < n → Moved (a′ k) (b′ k) (a k) (b k)) → ((k : ℕ) → k < n → c k ≤ l k)
+move-sum : (n : ℕ) (a′ b′ a b : Mask) (c l : ℕ → ℕ) → ((k : ℕ) → k < n → Moved (a′ k) (b′ k) (a k) (b k)) → ((k : ℕ) → k < n → c k ≤ l k)
     → maxOver n b′ c + sumOver n a′ l ≤ maxOver n b c + sumOver n a l
 unfolding over
 move-sum zero a′ b′ a b c l h p = zero-le
@@ -49,10 +49,10 @@ move-sum (suc n) a′ b′ a b c l h p =
     (sum-mono n a′ a l l (λ k q. h k (omega arith) .up) (λ k _ _. le-refl (l k)))
     (move-sum n a′ b′ a b c l (λ k q. h k (omega arith)) (λ k q. p k (omega arith)))
 
--- with any length x of the band's own beside B
-pub move-max : (n x : ℕ) (a′ b′ a b : Mask) (c l : ℕ → ℕ) → ((k : ℕ) → k < n → Moved (a′ k) (b′ k) (a k) (b k)) → ((k : ℕ) → k < n → c k ≤ l k)
-    → max (maxOver n b′ c) x + sumOver n a′ l ≤ max (maxOver n b c) x + sumOver n a l
-move-max n x a′ b′ a b c l h p =
-    let m = move-sum n a′ b′ a b c l h p in
-    let s = sum-mono n a′ a l l (λ k q. h k q .up) (λ k _ _. le-refl (l k)) in
+-- of loads, with any length x of the band's own beside B
+pub move-loads : (n x : ℕ) (C T J : ℕ → ℕ) (a′ b′ a b : Mask) (w : ℕ) → ((k : ℕ) → k < n → 0 < T k) → ((k : ℕ) → k < n → Moved (a′ k) (b′ k) (a k) (b k))
+    → max (maxOver n b′ C) x + sumOver n a′ (load C T J w) ≤ max (maxOver n b C) x + sumOver n a (load C T J w)
+move-loads n x C T J a′ b′ a b w T-pos h =
+    let m = move-sum n a′ b′ a b C (load C T J w) h (λ k q. load-once C T J w k (T-pos k q)) in
+    let s = sum-mono n a′ a (load C T J w) (load C T J w) (λ k q. h k q .up) (λ k _ _. le-refl (load C T J w k)) in
     omega arith

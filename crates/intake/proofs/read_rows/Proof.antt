@@ -5,7 +5,7 @@ use Prim.Native.Nat.{_+_, _-_, _≤_}
 use mathlib.Core.Path.{_≡_, refl, sym, ap, subst, _∙_}
 use Rattle.sums.specs.MaskLaws.{lowest-at, lowest-none}
 use Rattle.licence.specs.Limit.{limit}
-use Rattle.licence.specs.Row.{rowAt, badField, bitTimes, bandKey, allowedTime, fieldOf}
+use Rattle.licence.specs.Row.{rowAt, badField, bitTimes, bandKey, fieldOf}
 use Rattle.licence.specs.Laws.{Allowed, row-allowed, read-good, read-bad}
 use Rattle.licence.specs.declared.Row.{Row}
 use Rattle.intake.specs.Words.{badRow}
@@ -71,7 +71,7 @@ loop-again c =
     } in (
       omega arith,
       kept-next _ _ _ _ _ _ (l .inv .1),
-      progress-next _ _ _ _ _ _ _ room (r .0) (c .before .before .bit-times .ensures ∙ ap (λ (x : Row). bitTimes (x .length)) (r .1)) (ap (λ (x : Row). x .period) (r .1)) (ap (λ (x : Row). x .jitter) (r .1)) (ap allowedTime (r .1))
+      progress-next _ _ _ _ _ _ _ room (r .0) (c .before .before .bit-times .ensures ∙ ap (λ (x : Row). bitTimes (x .length)) (r .1)) (ap (λ (x : Row). x .period) (r .1)) (ap (λ (x : Row). x .jitter) (r .1)) (omega (arith, ap (λ (x : Row). x .deadline) (r .1), ap (λ (x : Row). x .jitter) (r .1)))
           (c .band-key .ensures ∙ ap (λ (x : Row). bandKey (x .queue) (l .i)) (r .1)) (l .inv .2),
     )
 
