@@ -6,7 +6,7 @@ use mathlib.Core.List.{List}
 use mathlib.Core.Bool.{Bool, true, false}
 use Rattle.sums.specs.Masks.{Place, at, nowhere}
 use Rattle.intake.specs.declared.Refusal.{Refusal}
-use Rattle.intake.specs.declared.Refusal.the-variants.{Ragged, TooMany, BadRow, NoRoom, OrderLength, OrderEntry, SplitQueue}
+use Rattle.intake.specs.declared.Refusal.the-variants.{Ragged, TooMany, BadRow, NoRoom, OrderLength, OrderEntry, SplitQueue, NoOrder}
 
 -- a reply's number and the numbers that it carries, in order, 0 where there are fewer
 pub record Answer : Type 0 where
@@ -26,6 +26,7 @@ refusalAnswer NoRoom = answer 4 0 0
 refusalAnswer OrderLength = answer 5 0 0
 refusalAnswer (OrderEntry place) = answer 6 place 0
 refusalAnswer (SplitQueue place) = answer 7 place 0
+refusalAnswer (NoOrder unplaced tried) = answer 8 unplaced tried
 
 -- a check refuses, or goes on
 pub data Check : Type 0 where

@@ -3,3 +3,5 @@ pub mod Answer
 pub mod Refusals
 pub mod Holds
 pub mod Laws
+pub mod Held
+pub mod Told

@@ -1,5 +1,4 @@
 // Takes in a lent table: its checks, refusals 1 to 4, and its numbers, each column in a list of the caller's.
-ghost use mathlib.Core.Path.{_≡_};
 ghost use Prim.Native.Nat.{_*_, _≤_};
 ghost use lib.ListN.{length};
 ghost use Rattle.licence.specs.Limit.{limit};
@@ -17,6 +16,8 @@ pub enum Refusal {
     OrderEntry(u32),
     // The position.
     SplitQueue(u32),
+    // Unplaced bands, then bands tried.
+    NoOrder(u32, u32),
 }
 
 // The number of rows taken in, or why the table is refused.

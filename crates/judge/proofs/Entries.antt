@@ -22,15 +22,15 @@ module _ (n : ℕ) (o flags : List ℕ) (p m : ℕ) (e : m ≡ at o p) where
   -- out of range, a repeat, or neither
   pub entry-high : n ≤ m → Is (badEntry n o p)
   unfolding badEntry
-  entry-high h = or-left (leb n (at o p)) (shownBefore (λ i. i) o p (at o p)) (le→leb n (at o p) (omega arith))
+  entry-high h = or-left (leb n (at o p)) (shownBefore (at o) p (at o p)) (le→leb n (at o p) (omega arith))
 
-  module _ (l : m < n) (marks : Marked (λ i. i) o flags n p) where
-    repeats : shownBefore (λ i. i) o p (at o p) ≡ flagged flags m
-    repeats = ap (shownBefore (λ i. i) o p) (sym e) ∙ sym (marks .up m l)
+  module _ (l : m < n) (marks : Marked (at o) flags n p) where
+    repeats : shownBefore (at o) p (at o p) ≡ flagged flags m
+    repeats = ap (shownBefore (at o) p) (sym e) ∙ sym (marks .up m l)
 
     test-is : badEntry n o p ≡ flagged flags m
     unfolding badEntry
-    test-is = ap (λ (b : Bool). b || shownBefore (λ i. i) o p (at o p)) (lt-leb n (at o p) (omega arith)) ∙ repeats
+    test-is = ap (λ (b : Bool). b || shownBefore (at o) p (at o p)) (lt-leb n (at o p) (omega arith)) ∙ repeats
 
     pub entry-again : at flags m ≡ 1 → Is (badEntry n o p)
     entry-again q = by-true (test-is ∙ eq-eqb (at flags m) 1 q)
@@ -39,7 +39,7 @@ module _ (n : ℕ) (o flags : List ℕ) (p m : ℕ) (e : m ≡ at o p) where
     entry-fine q = by-false (test-is ∙ ne-eqb (at flags m) 1 q)
 
 -- place p resumes a band: its key is flagged, and another stands just before it
-module _ (key : ℕ → ℕ) (o flags : List ℕ) (most p k : ℕ) (e : k ≡ key (at o p)) (l : k < most) (marks : Marked key o flags most p) where
+module _ (key : ℕ → ℕ) (o flags : List ℕ) (most p k : ℕ) (e : k ≡ key (at o p)) (l : k < most) (marks : Marked (λ i. key (at o i)) flags most p) where
   resumes-is : resumes key o p ≡ (flagged flags k && not (eqb (key (at o (p - 1))) k))
   unfolding resumes
   resumes-is = rw (← e) (ap (λ (b : Bool). b && not (eqb (key (at o (p - 1))) k)) (sym (marks .up k l)))

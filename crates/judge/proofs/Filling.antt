@@ -24,8 +24,9 @@ use Rattle.order.specs.Marks.{shownBefore, shown-here, shown-else, marked-rows}
 use Rattle.order.specs.Split.{None, entry-range, entry-new, order-of}
 use Rattle.order.specs.declared.Verdict.{Verdict}
 use Rattle.order.specs.declared.Verdict.the-variants.{Figure, Late}
+use Rattle.intake.specs.Held.{Held}
 use Rattle.judge.specs.Judged.{ShownAt}
-use Rattle.judge.specs.Walk.{InRange, Held, Sound, shownAs, Goes, StepGives, Midway}
+use Rattle.judge.specs.Walk.{InRange, Sound, shownAs, Goes, StepGives, Midway}
 
 pub in-range : {n : ℕ} {c t j e key order : List ℕ} → Held n c t j e key → length order ≡ n → None n (badEntry n order) → InRange n order
 in-range {n} {order = order} h count entries = record { few = h .lengths .few; count = count; range = λ p l. entry-range n order p (entries p l) }
@@ -45,11 +46,11 @@ module _ {n : ℕ} {c t j e key order flags figures gc gt gj : List ℕ} {p : �
   abbrev x : ℕ
   x = at key (at order p)
 
-  rows-before : (k : ℕ) → shownBefore (λ i. i) order p k ≡ mem (take p order) k
+  rows-before : (k : ℕ) → shownBefore (at order) p k ≡ mem (take p order) k
   rows-before k = marked-rows order p k (omega (arith, sound .count))
 
   -- where the band does not go on, none of its rows stands before place p: the rows before it are those above
-  none-before : (Goes key order p → ⊥) → (k : ℕ) → Is (shownBefore (λ i. i) order p k) → Is (own τ order p k) → ⊥
+  none-before : (Goes key order p → ⊥) → (k : ℕ) → Is (shownBefore (at order) p k) → Is (own τ order p k) → ⊥
   none-before new k s o =
       let r = any-elim p (λ i. eqb (at order i) k) s in
       let q = ap (at key) (eqb→eq (at order (r .0)) k (r .2)) ∙ eqb→eq (at key k) x o in
@@ -59,7 +60,7 @@ module _ {n : ℕ} {c t j e key order flags figures gc gt gj : List ℕ} {p : �
       go i l q (yes b) = sound .together i (p - 1) p b (omega arith) (omega (arith, sound .count)) q ∙ q
       go i l q (no b) = ap (λ (y : ℕ). at key (at order y)) (omega arith) ∙ q
 
-  above-there : (Goes key order p → ⊥) → (k : ℕ) → k < n → shownBefore (λ i. i) order p k ≡ above τ order p k
+  above-there : (Goes key order p → ⊥) → (k : ℕ) → k < n → shownBefore (at order) p k ≡ above τ order p k
   above-there new k l = same-test _ _
       (λ s. and-intro (mem (take p order) k) (not (own τ order p k)) (rw (rows-before k) at s) (not-T (own τ order p k) (none-before new k s)))
       (λ a. rw (rows-before k) (and-left (mem (take p order) k) (not (own τ order p k)) a))
@@ -77,23 +78,23 @@ module _ {n : ℕ} {c t j e key order flags figures gc gt gj : List ℕ} {p : �
   shown-there R (inr s) =
       let v = s .1 in
       same n (at c) (at c) (at t) (at t) (at j) (at j) (at e) (at e) (at key) (at key) (λ k l. refl) (λ k l. refl) (λ k l. refl) (λ k l. refl)
-      (own τ order p) (own τ order p) (shownBefore (λ i. i) order p) (above τ order p) (belowOf key flags x) (below τ order p)
+      (own τ order p) (own τ order p) (shownBefore (at order) p) (above τ order p) (belowOf key flags x) (below τ order p)
       (λ k l. refl) (above-there (s .0)) below-there
       (λ F mn e. Shows F mn e R)
-      (subst (Shows _ _ _) (sym (s .3)) (shows _ _ _ v (subst (λ (f : ℕ → ℕ). VerdictIs f (MIN τ (own τ order p)) (leastE τ (own τ order p)) v) (gathered-demand n (at c) (at t) (at j) (shownBefore (λ i. i) order p) p gc gt gj _ (m .gathered)) (s .2))))
+      (subst (Shows _ _ _) (sym (s .3)) (shows _ _ _ v (subst (λ (f : ℕ → ℕ). VerdictIs f (MIN τ (own τ order p)) (leastE τ (own τ order p)) v) (gathered-demand n (at c) (at t) (at j) (shownBefore (at order) p) p gc gt gj _ (m .gathered)) (s .2))))
 
   -- the row at place p is gathered behind the others
   pub gathered-there : (k : ℕ) → k ≡ at order p → Held n c t j e key → p < length gc → p < length gt → p < length gj
-      → Gathered n (at c) (at t) (at j) (shownBefore (λ i. i) order (p + 1)) (p + 1) (set gc p (at c k)) (set gt p (at t k)) (set gj p (at j k))
+      → Gathered n (at c) (at t) (at j) (shownBefore (at order) (p + 1)) (p + 1) (set gc p (at c k)) (set gt p (at t k)) (set gj p (at j k))
   gathered-there k e h hc ht hj =
       let l : k < n = subst (λ (y : ℕ). y < n) (sym e) (entry-range n order p (sound .entries p inside)) in
-      gathered-insert n (at c) (at t) (at j) (shownBefore (λ i. i) order p) (shownBefore (λ i. i) order (p + 1)) k p gc gt gj hc ht hj (m .gathered)
+      gathered-insert n (at c) (at t) (at j) (shownBefore (at order) p) (shownBefore (at order) (p + 1)) k p gc gt gj hc ht hj (m .gathered)
       (h .rates .c-most k l) (h .rates .t-least k l) (h .rates .t-most k l) (h .rates .j-most k l) l
-      (is-false (shownBefore (λ i. i) order p k) new)
-      (shown-here (λ i. i) order p k (sym e))
-      (λ y b d. shown-else (λ i. i) order p y (λ q. d (sym (e ∙ q))))
+      (is-false (shownBefore (at order) p k) new)
+      (shown-here (at order) p k (sym e))
+      (λ y b d. shown-else (at order) p y (λ q. d (sym (e ∙ q))))
     where
-      new : Is (shownBefore (λ i. i) order p k) → ⊥
+      new : Is (shownBefore (at order) p k) → ⊥
       new s = let r = any-elim p (λ i. eqb (at order i) k) s in entry-new n order p (sound .entries p inside) (r .0) (r .1) (eqb→eq (at order (r .0)) k (r .2) ∙ e)
 
 -- the figures of the first p places are written

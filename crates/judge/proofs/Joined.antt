@@ -1,5 +1,5 @@
 -- What is judged over columns holds of the words that they were read from. Assumes nothing.
-use Prim.Native.Nat.{ℕ, suc, _-_, _≤_, _<_}
+use Prim.Native.Nat.{ℕ, suc, _-_, _<_}
 use native.Mathlib.Omega.{arith}
 use mathlib.Core.Path.{_≡_, refl, sym, ap, ap₂, subst, _∙_}
 use mathlib.Core.Logic.{_⊎_, inl, inr}
@@ -18,13 +18,10 @@ use Rattle.order.specs.Same.{same}
 use Rattle.order.specs.Split.{entry-range}
 use Rattle.intake.specs.Words.{rows, tableOf}
 use Rattle.intake.specs.Answer.{Answer, answer, Check, fine, refuseIf, refuseAt, _then_, Replied}
-use Rattle.intake.specs.Laws.{then-fine, at-fine, Accepted, accepted}
-use Rattle.licence.specs.Limit.{limit}
-use Rattle.licence.specs.Row.{badField}
-use Rattle.licence.specs.Laws.{Allowed, row-allowed, key-bound}
-use Rattle.intake.specs.Holds.{Holds, Room, TakenIn}
+use Rattle.intake.specs.Laws.{then-fine, at-fine}
+use Rattle.intake.specs.Holds.{Holds, TakenIn}
 use Rattle.judge.specs.Judged.{orderRefusal, Written, AllPassed, SomeLate, Answered, Judged}
-use Rattle.judge.specs.Walk.{Held, OrderJudged}
+use Rattle.judge.specs.Walk.{OrderJudged}
 
 -- an order that no check refuses has no bad entry
 fine-entries : (τ : Table) (o : List ℕ) → orderRefusal τ o ≡ fine → lowest (τ .n) (badEntry (τ .n) o) ≡ nowhere
@@ -106,41 +103,3 @@ joined words order before after a {n} {c} {t} {j} {e} {key} x h =
     let holds : Holds (tableOf words) (rows words) c t j e key = subst (λ (m : ℕ). Holds (tableOf words) m c t j e key) (x .count) (x .holds) in
     let y = judged-same (tableOf words) c t j e key holds order (subst (λ (τ : Table). OrderJudged τ order before after a) same-count h) in
     subst (λ (k : Check). Replied (k then orderRefusal (tableOf words) order) before after a (Answered (tableOf words) order before after a)) (sym (x .unrefused)) y
-
--- the columns of a table that was taken in are held
-pub held : (words : List ℕ) (room : ℕ) {n : ℕ} {c t j e key : List ℕ} → Room limit c t j e key → TakenIn words room n c t j e key → Held n c t j e key
-held words room {n} {c} {t} {j} {e} {key} long x =
-    record {
-      rates =
-          record {
-            long-c = omega (arith, long .long-c, few);
-            long-t = omega (arith, long .long-t, few);
-            long-j = omega (arith, long .long-j, few);
-            c-most = λ k l. omega (arith, x .holds .is-C k l, row k l .length-le);
-            t-least = λ k l. omega (arith, x .holds .is-T k l, row k l .period-pos);
-            t-most = λ k l. omega (arith, x .holds .is-T k l, row k l .period-le);
-            j-most = λ k l. omega (arith, x .holds .is-J k l, row k l);
-          };
-      lengths =
-          record {
-            few = few;
-            long-c = omega (arith, long .long-c, few);
-            long-e = omega (arith, long .long-e, few);
-            c-most = λ k l. omega (arith, x .holds .is-C k l, row k l .length-le);
-            e-most = λ k l. omega (arith, x .holds .is-E k l, row k l);
-          };
-      some-bits = λ k l. omega (arith, x .holds .is-C k l, row k l .length-pos);
-      keys = record { long-key = omega (arith, long .long-key, few); key-most = λ k l. omega (arith, x .holds .is-key k l, key-bound words k (good k l)) };
-    }
-  where
-    ok : Accepted words room
-    ok = accepted words room (x .unrefused)
-
-    few : n ≤ limit
-    few = omega (arith, x .count, ok .few)
-
-    good : (k : ℕ) → k < n → badField words k ≡ 0
-    good k l = ok .good k (omega (arith, x .count))
-
-    row : (k : ℕ) → k < n → Allowed words k
-    row k l = row-allowed words k (good k l)

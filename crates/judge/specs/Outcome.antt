@@ -6,21 +6,19 @@ use native.Mathlib.Decide.{decLt}
 use native.Mathlib.Omega.{arith}
 use mathlib.Core.Path.{_≡_, refl, sym, ap, _∙_, subst}
 use mathlib.Core.Logic.{_⊎_, inl, inr, _↔_}
-use mathlib.Core.Bool.{Bool, true, false, cond}
+use mathlib.Core.Bool.{cond}
 use mathlib.Core.List.{List}
 use lib.ListN.{length}
 use lib.Seq.{ext-getD}
 use lib.Dec.{eqb, eqb-refl, lit≤}
-use Rattle.sums.specs.Masks.{Place, at as found, nowhere}
 use Rattle.sums.specs.Columns.{at}
 use Rattle.order.specs.Table.{Table}
 use Rattle.order.specs.Orders.{keyAt, own, above, below, PassesAt, FigureAt, AllPass}
 use Rattle.order.specs.Figures.{figure-one, figure-passes, figure-pos}
 use Rattle.intake.specs.Words.{rows, tableOf}
-use Rattle.intake.specs.Answer.{Answer, answer, Check, refused, fine, refuseIf, refuseAt, _then_}
-use Rattle.intake.specs.Refusals.{tableRefusal}
+use Rattle.intake.specs.Answer.{Answer, answer, Check, refused, fine}
 use Rattle.judge.specs.Judged.{judgementAnswer, orderRefusal, refusal, LateAt, ShownAt, Written, AllPassed, SomeLate, Judged}
-use Rattle.intake.specs.declared.Refusal.the-variants.{Ragged, TooMany, BadRow, NoRoom, OrderLength, OrderEntry, SplitQueue}
+use Rattle.intake.specs.Told.{toldRefusal, told-refusal, not-refusal, then-small, if-small, at-small, wider-small, number-small, table-small}
 use Rattle.judge.specs.declared.Judgement.{Judgement}
 use Rattle.judge.specs.declared.Judgement.the-variants.{Passed, Late, Refused}
 use Rattle.judge.specs.Fine.{Fine, fine-order, some-bits, entry-row, place-of}
@@ -135,28 +133,13 @@ one-outcome words order before after after′ a a′ j j′ = go (refusal words 
 
 -- each case of the enum has an answer of its own
 told : Answer → Judgement
-told a =
-    cond (eqb (a .number) 100) Passed
-    (cond (eqb (a .number) 101) (Late (a .first))
-    (Refused
-    (cond (eqb (a .number) 1) Ragged
-    (cond (eqb (a .number) 2) TooMany
-    (cond (eqb (a .number) 3) (BadRow (a .first) (a .second))
-    (cond (eqb (a .number) 4) NoRoom
-    (cond (eqb (a .number) 5) OrderLength
-    (cond (eqb (a .number) 6) (OrderEntry (a .first)) (SplitQueue (a .first))))))))))
+told a = cond (eqb (a .number) 100) Passed (cond (eqb (a .number) 101) (Late (a .first)) (Refused (toldRefusal a)))
 
 told-answer : (r : Judgement) → told (judgementAnswer r) ≡ r
 unfolding told
 told-answer Passed = refl
 told-answer (Late p) = refl
-told-answer (Refused Ragged) = refl
-told-answer (Refused TooMany) = refl
-told-answer (Refused (BadRow i f)) = refl
-told-answer (Refused NoRoom) = refl
-told-answer (Refused OrderLength) = refl
-told-answer (Refused (OrderEntry p)) = refl
-told-answer (Refused (SplitQueue p)) = refl
+told-answer (Refused r) = rw (not-refusal r 100 (lit≤ tt), not-refusal r 101 (lit≤ tt), told-refusal r)
 
 pub one-judgement : OneJudgement
 one-judgement words order before after after′ r r′ j j′ =
@@ -173,34 +156,11 @@ passing-answered words order before after a j e h =
     let known = fine-order words order (length before) e in
     says-passed (tableOf words) order (λ p l. h p (omega arith)) (j .answering e .verdict)
 
--- ---- the numbers of the refusals
-
--- a check that refuses does so with a number no more than 7
-data Small : Check → Type 0 where
-  small : {r : Answer} → r .number ≤ 7 → Small (refused r)
-  none : Small fine
-
-then-small : {a b : Check} → Small a → Small b → Small (a then b)
-then-small (small h) k = small h
-then-small none k = k
-
-if-small : (t : Bool) (r : Answer) → r .number ≤ 7 → Small (refuseIf t r)
-if-small true r h = small h
-if-small false r h = none
-
-at-small : (p : Place) (r : ℕ → Answer) → ((k : ℕ) → r k .number ≤ 7) → Small (refuseAt p r)
-at-small (found k) r h = small (h k)
-at-small nowhere r h = none
-
-refusal-small : (words order : List ℕ) (room : ℕ) → Small (refusal words order room)
-unfolding tableRefusal orderRefusal
-refusal-small words order room = search (then-small, if-small, at-small, lit≤) depth 7
-
+-- the checks of the table have numbers up to 4, and those of the order 5 to 7
 pub refused-small : RefusedSmall
-refused-small words order room r e = go (subst Small e (refusal-small words order room))
-  where
-    go : Small (refused r) → r .number ≤ 7
-    go (small h) = h
+unfolding orderRefusal
+refused-small words order room r e =
+    number-small (then-small (wider-small (lit≤ tt) (table-small words room)) (search (then-small, if-small, at-small, lit≤))) e
 
 pub passed-means : PassedMeans
 passed-means words order before after a j is-100 = go (refusal words order (length before)) refl

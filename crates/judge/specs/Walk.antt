@@ -1,6 +1,6 @@
 -- What the functions of this crate answer about an order and a table held in columns. Definitions only.
 -- Assumes nothing.
-use Prim.Native.Nat.{ℕ, _+_, _-_, _≤_, _<_}
+use Prim.Native.Nat.{ℕ, _-_, _≤_, _<_}
 use mathlib.Core.Logic.{_⊎_}
 use mathlib.Core.Path.{_≡_}
 use mathlib.Core.List.{List}
@@ -15,6 +15,7 @@ use Rattle.order.specs.Split.{None}
 use Rattle.order.specs.Marks.{Marked, shownBefore}
 use Rattle.order.specs.Sheet.{sheet, Lengths, Gathered, BandVerdict}
 use Rattle.intake.specs.Answer.{Answer, Replied}
+use Rattle.intake.specs.Held.{Keyed}
 use Rattle.judge.specs.Judged.{orderRefusal, ShownAt, Answered}
 use Rattle.order.specs.declared.Verdict.{Verdict}
 use Rattle.order.specs.declared.Verdict.the-variants.{Figure, Late}
@@ -31,18 +32,6 @@ pub record InRange (n : ℕ) (order : List ℕ) : Type 0 where
   pub few : n ≤ limit
   pub count : length order ≡ n
   pub range : (p : ℕ) → p < n → entry order p < n
-
--- a key for each row, none past that of a priority row in its place
-pub record Keyed (n : ℕ) (key : List ℕ) : Type 0 where
-  pub long-key : n ≤ length key
-  pub key-most : (k : ℕ) → k < n → entry key k ≤ 65 + k
-
--- a table in columns, with numbers as document 01 allows them
-pub record Held (n : ℕ) (c t j e key : List ℕ) : Type 0 where
-  pub rates : Columns n c t j
-  pub lengths : Lengths n c e
-  pub some-bits : (k : ℕ) → k < n → 1 ≤ entry c k
-  pub keys : Keyed n key
 
 -- what stands for a row: its band's figure, or 0
 abbrev pub shownAs : Verdict → ℕ
@@ -81,8 +70,8 @@ StepGives n c e key order flags figures gc gt gj p R =
 
 -- midway along the order, at place p: the rows before it are flagged and gathered, and have their figures
 pub record Midway (n : ℕ) (c t j e key order flags figures gc gt gj : List ℕ) (p : ℕ) : Type 0 where
-  pub marked : Marked (λ i. i) order flags n p
-  pub gathered : Gathered n (entry c) (entry t) (entry j) (shownBefore (λ i. i) order p) p gc gt gj
+  pub marked : Marked (entry order) flags n p
+  pub gathered : Gathered n (entry c) (entry t) (entry j) (shownBefore (entry order) p) p gc gt gj
   pub shown : (x : ℕ) → x < p → ShownAt (sheet n c t j e key) order x (entry figures (entry order x))
 
 -- judging an order over a table in columns: what the checks of the order refuse, and else the answer

@@ -8,8 +8,9 @@ ghost use Rattle.licence.specs.Limit.{limit};
 ghost use Rattle.order.specs.Orders.{badEntry, resumes};
 ghost use Rattle.order.specs.Marks.{Marked};
 ghost use Rattle.order.specs.Sheet.{sheet};
+ghost use Rattle.intake.specs.Held.{Keyed, Held};
 ghost use Rattle.judge.specs.Judged.{judgementAnswer, Written, Judged};
-ghost use Rattle.judge.specs.Walk.{placeOf, InRange, Keyed, Held, Sound, shownAs, zeroAt, Step, StepGives, OrderJudged};
+ghost use Rattle.judge.specs.Walk.{placeOf, InRange, Sound, shownAs, zeroAt, Step, StepGives, OrderJudged};
 
 // The answer to an order, or why it is refused.
 pub enum Judgement {
@@ -77,7 +78,7 @@ fn place_before(p: usize) -> usize
 
 // Does place p resume a band already left? The flags of `used` are up at the keys of the places before it.
 fn resumes_at(key: &[u32], order: &[u32], n: usize, used: &[u32], p: usize) -> bool
-    requires { ⌜ InRange n (now order) × Keyed n (now key) × Marked (at (now key)) (now order) (now used) (65 + n) p × (p < n) ⌝ }
+    requires { ⌜ InRange n (now order) × Keyed n (now key) × Marked (λ i. at (now key) (at (now order) i)) (now used) (65 + n) p × (p < n) ⌝ }
     ensures { λ r. ⌜ r ≡ resumes (at (now (key .entry))) (now (order .entry)) p ⌝ }
 {
     let k = key_at(key, order, n, p);

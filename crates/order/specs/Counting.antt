@@ -17,7 +17,7 @@ use Rattle.order.specs.Table.{Table}
 use Rattle.order.specs.Orders.{mem, NoRepeat, Order}
 use Rattle.order.specs.Lists.{mem-nil, mem-here, mem-there, mem-cases}
 
-abbrev bit : Bool → ℕ
+abbrev pub bit : Bool → ℕ
 bit b = cond b 1 0
 
 bit-yes : (b : Bool) → Is b → bit b ≡ 1
@@ -28,7 +28,7 @@ bit-is : (b : Bool) → 0 < bit b → Is b
 bit-is true h = tt
 bit-is false h = absurd (omega arith)
 
-bit-le : (b : Bool) → bit b ≤ 1
+pub bit-le : (b : Bool) → bit b ≤ 1
 bit-le true = le-refl 1
 bit-le false = zero-le
 

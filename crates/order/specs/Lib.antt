@@ -6,6 +6,7 @@ pub mod Counting
 pub mod Same
 pub mod Figures
 pub mod Bands
+pub mod Moving
 pub mod Split
 pub mod Sheet
 pub mod Marks

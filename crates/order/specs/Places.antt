@@ -10,6 +10,7 @@ use mathlib.Core.List.{List, [], _∷_}
 use lib.ListN.{length, getD, take, drop, length-drop}
 use lib.Seq.{getD-drop}
 use lib.Dec.{T as Is}
+use Rattle.sums.specs.Masks.{Mask}
 use Rattle.order.specs.Orders.{mem, NoRepeat}
 use Rattle.order.specs.Lists.{mem-nil, mem-here, mem-there, mem-cases, mem-getD, mem-at, one-place}
 
@@ -52,3 +53,12 @@ no-repeat-cut l j k p a b =
     let r = take-at l j k a in
     let s = drop-at l j k b in
     absurd (omega (arith, one-place l (r .0) (s .0) p (r .2) (s .2) (r .3 ∙ sym (s .3)), r .1, s .1))
+
+-- a test holds of every row of a list, if it holds of each one that has only such rows behind it
+pub from-last : (m : Mask) (l : List ℕ) → ((p : ℕ) → p < length l → ((k : ℕ) → Is (mem (drop (suc p) l) k) → Is (m k)) → Is (m (getD l p 0))) → (k : ℕ) → Is (mem l k) → Is (m k)
+from-last m [] h k i = absurd (mem-nil k i)
+from-last m (x ∷ l) h k i = go (from-last m l (λ p b. h (suc p) (suc-le-suc b))) (mem-cases x l k i)
+  where
+    go : ((j : ℕ) → Is (mem l j) → Is (m j)) → (k ≡ x) ⊎ Is (mem l k) → Is (m k)
+    go rest (inl e) = rw e (h 0 (suc-le-suc zero-le) rest)
+    go rest (inr b) = rest k b

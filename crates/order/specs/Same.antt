@@ -2,7 +2,7 @@
 -- verdict and one figure.
 -- Assumes nothing.
 use Prim.Native.Nat.{ℕ, _+_, _-_, _<_, max, min}
-use mathlib.Core.Path.{_≡_, ap, _∙_, subst₃, fun-ext}
+use mathlib.Core.Path.{_≡_, sym, ap, _∙_, subst₃, fun-ext}
 use Rattle.sums.specs.Masks.{Mask}
 use Rattle.sums.specs.Sums.{maxOver, minFrom, minOver}
 use Rattle.sums.specs.Laws.{over-same, demand-same}
@@ -33,3 +33,6 @@ module _ (n : ℕ) (C C′ T T′ J J′ E E′ key key′ : ℕ → ℕ) (hC : 
 
   pub same : (P : (ℕ → ℕ) → ℕ → ℕ → Type 0) → P (F τ₁ o a b) (MIN τ₁ o) (leastE τ₁ o) → P (F τ₂ o′ a′ b′) (MIN τ₂ o′) (leastE τ₂ o′)
   same P h = subst₃ P F-same (min-same n o o′ C C′ ho hC) (min-same n o o′ E E′ ho hE) h
+
+  pub same-back : (P : (ℕ → ℕ) → ℕ → ℕ → Type 0) → P (F τ₂ o′ a′ b′) (MIN τ₂ o′) (leastE τ₂ o′) → P (F τ₁ o a b) (MIN τ₁ o) (leastE τ₁ o)
+  same-back P h = subst₃ P (sym F-same) (sym (min-same n o o′ C C′ ho hC)) (sym (min-same n o o′ E E′ ho hE)) h

@@ -2,6 +2,7 @@
 ghost use mathlib.Core.Path.{_≡_};
 ghost use Rattle.intake.specs.Answer.{answer, refusalAnswer};
 ghost use Rattle.judge.specs.Judged.{judgementAnswer, Judged};
+ghost use Rattle.finder.specs.Searched.{findingAnswer, Searched};
 ghost use Rattle.telhavina.specs.Replies.{said};
 
 // A reply's number, and the numbers that it carries, in order, 0 where there are fewer.
@@ -33,6 +34,7 @@ fn refusal_reply(r: intake::Refusal) -> Reply
         intake::Refusal::OrderLength => numbered(5, 0, 0),
         intake::Refusal::OrderEntry(place) => numbered(6, place, 0),
         intake::Refusal::SplitQueue(place) => numbered(7, place, 0),
+        intake::Refusal::NoOrder(unplaced, tried) => numbered(8, unplaced, tried),
     }
 }
 
@@ -46,10 +48,27 @@ fn judgement_reply(j: judge::Judgement) -> Reply
     }
 }
 
+fn finding_reply(f: finder::Finding) -> Reply
+    ensures { λ r. ⌜ said r ≡ findingAnswer f ⌝ }
+{
+    match f {
+        finder::Finding::Found(tried) => numbered(102, tried, 0),
+        finder::Finding::Refused(r) => refusal_reply(r),
+    }
+}
+
 // Judges an order: see include/telhavina.h.
 #[no_mangle]
 pub extern "C" fn telhavina_judge(table: &[u32], order: &[u32], figures: &mut [u32]) -> Reply
     ensures { λ r. ⌜ Judged (now (table .entry)) (now (order .entry)) (now (figures .entry)) (now (figures .exit)) (said r) ⌝ }
 {
     judgement_reply(judge::judge(table, order, figures))
+}
+
+// Finds an order: see include/telhavina.h.
+#[no_mangle]
+pub extern "C" fn telhavina_find(table: &[u32], order: &mut [u32]) -> Reply
+    ensures { λ r. ⌜ Searched (now (table .entry)) (now (order .entry)) (now (order .exit)) (said r) ⌝ }
+{
+    finding_reply(finder::find(table, order))
 }

@@ -16,7 +16,7 @@ use Rattle.judge.proofs.fill.Tie as tie
 
 abbrev Inv-loop : tie.InvT-loop
 Inv-loop n c t j e key order figures₀ before₀ gc₀ gt₀ gj₀ p₀ figures before gc gt gj p =
-    (p ≤ n) × Marked (λ i. i) order before n p × Gathered n (at c) (at t) (at j) (shownBefore (λ i. i) order p) p gc gt gj × FilledTo (sheet n c t j e key) order figures₀ figures p
+    (p ≤ n) × Marked (at order) before n p × Gathered n (at c) (at t) (at j) (shownBefore (at order) p) p gc gt gj × FilledTo (sheet n c t j e key) order figures₀ figures p
     × (length before ≡ length before₀) × (length gc ≡ length gc₀) × (length gt ≡ length gt₀) × (length gj ≡ length gj₀)
 
 abbrev μ-loop : tie.MeasureT-loop
@@ -25,7 +25,7 @@ abbrev μ-loop : tie.MeasureT-loop
 loop-holds : tie.Need-loop-holds Inv-loop μ-loop
 unfolding limit
 loop-holds c =
-    (omega arith, marked-none _ _ limit _ (c .before .before .before .before .before .before .before .pre .0 .lengths .few), gathered-none _ _ _ _ _ _ _ _ (λ k l. none-shown (λ i. i) (c .before .before .before .before .before .before .before .args .order .now) k), filled-none _ _ _, refl, refl, refl, refl)
+    (omega arith, marked-none _ limit _ (c .before .before .before .before .before .before .before .pre .0 .lengths .few), gathered-none _ _ _ _ _ _ _ _ (λ k l. none-shown (at (c .before .before .before .before .before .before .before .args .order .now)) k), filled-none _ _ _, refl, refl, refl, refl)
 
 row-at-requires : tie.Need-row-at-requires Inv-loop μ-loop
 row-at-requires c κs = let p = c .before .before .before .before .before .before .before .before .before .pre in (in-range (p .0) (p .1 .count) (p .1 .entries), omega arith)
@@ -58,7 +58,7 @@ loop-again c =
     let few = p .0 .lengths .few in
     let at-place = midway (c .before .before .before .before .before .before .before .before .before .before .before) in (
       omega arith,
-      marked-next _ _ _ _ _ _ (m .1) (m .0) (i .1),
+      marked-next _ _ _ _ _ (m .1) (m .0) (i .1),
       gathered-there (p .1) (omega arith) at-place _ (m .0) (p .0) (omega (arith, i .5)) (omega (arith, i .6)) (omega (arith, i .7)),
       filled-next _ _ _ _ _ _ _ (p .1 .entries) (p .2) (omega arith) (m .0) (shown-there (p .1) (omega arith) at-place _ (c .before .before .before .figure-at .ensures)) (i .3),
       simp length-set (i .4),

@@ -7,20 +7,21 @@ use Rattle.sums.specs.MaskLaws.{lowest-at, lowest-none}
 use Rattle.licence.specs.Limit.{limit}
 use Rattle.order.specs.Orders.{badEntry}
 use Rattle.order.specs.Split.{None, none-next}
+use Rattle.sums.specs.Columns.{at}
 use Rattle.order.specs.Marks.{Marked, marked-none, marked-next}
 use Rattle.judge.proofs.Entries.{entry-high, entry-again, entry-fine}
 use Rattle.judge.proofs.first_bad_entry.Statement.{statement}
 use Rattle.judge.proofs.first_bad_entry.Tie as tie
 
 abbrev Inv-loop : tie.InvT-loop
-Inv-loop order n used₀ p₀ used p = (p ≤ n) × Marked (λ i. i) order used n p × None p (badEntry n order)
+Inv-loop order n used₀ p₀ used p = (p ≤ n) × Marked (at order) used n p × None p (badEntry n order)
 
 abbrev μ-loop : tie.MeasureT-loop
 μ-loop order n used₀ p₀ used p = n - p
 
 loop-holds : tie.Need-loop-holds Inv-loop μ-loop
 unfolding limit
-loop-holds c = (omega arith, marked-none _ _ limit _ (c .before .pre .0), λ k l. absurd (omega arith))
+loop-holds c = (omega arith, marked-none _ limit _ (c .before .pre .0), λ k l. absurd (omega arith))
 
 returns : tie.Need-returns Inv-loop μ-loop
 returns c =
@@ -36,7 +37,7 @@ loop-again : tie.Need-loop-again Inv-loop μ-loop
 loop-again c =
     let i = c .before .before .before .before .before .loop .inv in
     let e = c .before .before .index .ensures in
-    (omega arith, marked-next _ _ _ _ _ _ (c .before .if1 .left) e (i .1), none-next (badEntry (c .before .before .before .before .before .before .before .args .n) (c .before .before .before .before .before .before .before .args .order .now)) (i .2) (entry-fine _ _ _ _ _ e (c .before .if1 .left) (i .1) (c .if2 .left)))
+    (omega arith, marked-next _ _ _ _ _ (c .before .if1 .left) e (i .1), none-next (badEntry (c .before .before .before .before .before .before .before .args .n) (c .before .before .before .before .before .before .before .args .order .now)) (i .2) (entry-fine _ _ _ _ _ e (c .before .if1 .left) (i .1) (c .if2 .left)))
 
 returns-3 : tie.Need-returns-3 Inv-loop μ-loop
 returns-3 c =

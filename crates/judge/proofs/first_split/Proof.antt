@@ -15,14 +15,14 @@ use Rattle.judge.proofs.first_split.Statement.{statement}
 use Rattle.judge.proofs.first_split.Tie as tie
 
 abbrev Inv-loop : tie.InvT-loop
-Inv-loop key order n used₀ p₀ used p = (p ≤ n) × Marked (at key) order used (65 + n) p × None p (resumes (at key) order) × (length used ≡ length used₀)
+Inv-loop key order n used₀ p₀ used p = (p ≤ n) × Marked (λ i. at key (at order i)) used (65 + n) p × None p (resumes (at key) order) × (length used ≡ length used₀)
 
 abbrev μ-loop : tie.MeasureT-loop
 μ-loop key order n used₀ p₀ used p = n - p
 
 loop-holds : tie.Need-loop-holds Inv-loop μ-loop
 unfolding limit
-loop-holds c = let few = c .before .before .pre .0 .few in (omega arith, marked-none _ _ (65 + limit) _ (omega arith), (λ k l. absurd (omega arith)), refl)
+loop-holds c = let few = c .before .before .pre .0 .few in (omega arith, marked-none _ (65 + limit) _ (omega arith), (λ k l. absurd (omega arith)), refl)
 
 returns : tie.Need-returns Inv-loop μ-loop
 returns c =
@@ -38,7 +38,7 @@ loop-again c =
     let a = c .before .before .before .before .before .before .before .before .before .args in
     let i = c .before .before .before .before .before .before .loop .inv in
     let k = c .before .key-at .ensures in
-    (omega arith, marked-next _ _ _ _ _ _ (omega (arith, k .1, c .index .ensures)) (c .index .ensures ∙ k .0) (i .1), none-next (resumes (at (a .key .now)) (a .order .now)) (i .2) (by-false (sym (c .before .before .before .resumes-at .ensures) ∙ c .before .before .if1 .left)), simp length-set (i .3))
+    (omega arith, marked-next _ _ _ _ _ (omega (arith, k .1, c .index .ensures)) (c .index .ensures ∙ k .0) (i .1), none-next (resumes (at (a .key .now)) (a .order .now)) (i .2) (by-false (sym (c .before .before .before .resumes-at .ensures) ∙ c .before .before .if1 .left)), simp length-set (i .3))
 
 returns-2 : tie.Need-returns-2 Inv-loop μ-loop
 returns-2 c =

@@ -8,8 +8,9 @@ use Rattle.licence.specs.Limit.{limit}
 use Rattle.intake.specs.Words.{tableOf}
 use Rattle.intake.specs.Answer.{Check, _then_}
 use Rattle.intake.specs.Laws.{replied-refused, accepted, taken-in, taken-refused}
+use Rattle.intake.specs.Held.{held}
 use Rattle.judge.specs.Judged.{orderRefusal}
-use Rattle.judge.proofs.Joined.{joined, held}
+use Rattle.judge.proofs.Joined.{joined}
 use Rattle.judge.proofs.judge.Statement.{statement}
 use Rattle.judge.proofs.judge.Tie as tie
 

@@ -1,0 +1,5 @@
+pub mod Stack
+pub mod Putting
+pub mod Verdicts
+pub mod Search
+pub mod Joined

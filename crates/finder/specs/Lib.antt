@@ -1,0 +1,9 @@
+pub mod Placing
+pub mod Rising
+pub mod Leading
+pub mod Standing
+pub mod Right
+pub mod Tried
+pub mod Searched
+pub mod Outcome
+pub mod Steps

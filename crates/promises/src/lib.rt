@@ -1,0 +1,1 @@
+// What follows where the judge and the finder meet. Theorems only: see specs/.
