@@ -1,5 +1,5 @@
 /*
- * telhavina: judges a priority order of the CAN messages on one bus.
+ * telhavina: judges a priority order of the CAN messages on one bus, and finds one.
  *
  * Link with libtelhavina.a. The functions allocate nothing, keep nothing between calls, and need no other library. Every
  * input is answered or refused by number; nothing has to be checked beforehand.
@@ -17,18 +17,21 @@ extern "C" {
 /*
  * A reply: its number, and the numbers that it carries, in order, 0 where there are fewer.
  *
- *   number                     first              second   the list lent for the answer
- *   100  passed                0                  0        the figure of row i at place i
- *   101  late                  first late place   0        the same, with 0 for each late row
- *     1  ragged                0                  0        untouched
- *     2  too many rows         0                  0        untouched
- *     3  bad row               row                field    untouched
- *     4  no room               0                  0        untouched
- *     5  order length          0                  0        untouched
- *     6  order entry           position           0        untouched
- *     7  split queue           position           0        untouched
+ *   number                     first              second        the list lent for the answer
+ *   100  passed                0                  0             the figure of row i at place i
+ *   101  late                  first late place   0             the same, with 0 for each late row
+ *   102  found                 bands tried        0             the row numbers, highest priority first, from place 0 on
+ *     1  ragged                0                  0             untouched
+ *     2  too many rows         0                  0             untouched
+ *     3  bad row               row                field         untouched
+ *     4  no room               0                  0             untouched
+ *     5  order length          0                  0             untouched
+ *     6  order entry           position           0             untouched
+ *     7  split queue           position           0             untouched
+ *     8  no order              unplaced bands     bands tried   untouched
  *
- * Rows, places and positions count from 0, fields from 1. Of several refusals the one with the least number is given.
+ * Judging replies 100, 101 or 1 to 7; finding replies 102, 1 to 4 or 8. Rows, places and positions count from 0, fields
+ * from 1. Of several refusals the one with the least number is given.
  */
 typedef struct telhavina_reply {
     uint32_t number;
@@ -58,6 +61,23 @@ typedef struct telhavina_reply {
 telhavina_reply telhavina_judge(const uint32_t *table, size_t table_len,
                                 const uint32_t *order, size_t order_len,
                                 uint32_t *figures, size_t figures_len);
+
+/*
+ * Finds an order that passes when judged.
+ *
+ * table    as for judging
+ * order    room for a word a row, or more. Places past the last row are never written.
+ *
+ * Each list is a pointer, aligned and not null, and then its length in words; of a list of length 0 nothing is read. The
+ * two lists may not overlap.
+ *
+ * A band is one priority row, or all rows of one FIFO. The lowest place is filled first: the bands that have no place yet
+ * are tried there in rising order of their first row, the others of them taken as above, and the first that passes is
+ * placed. If none passes, no order does. The rows of a FIFO stand in rising row number. The number of bands tried counts
+ * those of all places, the highest included; of 64 bands it is at most 2,080.
+ */
+telhavina_reply telhavina_find(const uint32_t *table, size_t table_len,
+                               uint32_t *order, size_t order_len);
 
 #ifdef __cplusplus
 }

@@ -1,8 +1,10 @@
-//! The second program: a judge of priority orders, written from document 01 alone.
+//! The second program: it judges priority orders and finds them, and is written from document 01
+//! alone.
 //!
 //! It is there to be compared with the proved library, in what it answers and in how long it
 //! takes, so it shares nothing with it: no code, no contract, not even a table of limits.
 
+mod find;
 mod order;
 mod row;
 mod sums;
@@ -12,13 +14,15 @@ use row::{Row, FIELDS};
 /// A table has at most this many rows.
 const MAX_ROWS: usize = 64;
 
-/// What the desk replies when asked to judge. Rows and places count from 0, fields from 1.
+/// What the desk replies. Rows and places count from 0, fields from 1.
 #[derive(Debug, Clone, Copy, PartialEq, Eq)]
 pub enum Reply {
     /// Every band passes.
     Passed,
     /// Some band is late; carries the first late place in the order.
     Late(u32),
+    /// There is an order that passes; carries how many bands were tried.
+    Found(u32),
     /// 1: no words, or not a multiple of six.
     Ragged,
     /// 2: more than 64 rows.
@@ -38,22 +42,33 @@ pub enum Reply {
     OrderEntry(u32),
     /// 7: the first place that resumes a FIFO already left.
     SplitQueue(u32),
+    /// 8: at some place none of the bands that are left passes.
+    NoOrder {
+        /// The bands that are left.
+        unplaced: u32,
+        /// How many bands were tried, at all places together.
+        tried: u32,
+    },
 }
 
 /// Judges `order` over `table`; the figure of row i goes to place i of `figures`, 0 if it is late.
 ///
 /// A refusal alters no word of `figures`, and places past the last row are never written.
 pub fn judge(table: &[u32], order: &[u32], figures: &mut [u32]) -> Reply {
-    answer(table, order, figures).unwrap_or_else(|refusal| refusal)
+    judged(table, order, figures).unwrap_or_else(|refusal| refusal)
 }
 
-/// The answer (passed or late), or else the first refusal of 1 to 7 that is due.
-fn answer(table: &[u32], order: &[u32], figures: &mut [u32]) -> Result<Reply, Reply> {
+/// Finds an order over `table` and puts it into the first places of `order`.
+///
+/// A refusal alters no word of `order`, and places past the last row are never written.
+pub fn find(table: &[u32], order: &mut [u32]) -> Reply {
+    found(table, order).unwrap_or_else(|refusal| refusal)
+}
+
+/// What was judged (passed or late), or else the first refusal of 1 to 7 that is due.
+fn judged(table: &[u32], order: &[u32], figures: &mut [u32]) -> Result<Reply, Reply> {
     let mut rows = [Row::NONE; MAX_ROWS];
-    let rows = read_table(table, &mut rows)?;
-    if figures.len() < rows.len() {
-        return Err(Reply::NoRoom);
-    }
+    let rows = read_table(table, figures.len(), &mut rows)?;
     let mut placed = [Row::NONE; MAX_ROWS];
     let placed = place_rows(rows, order, &mut placed)?;
     Ok(match sums::write_figures(placed, order, figures) {
@@ -62,8 +77,21 @@ fn answer(table: &[u32], order: &[u32], figures: &mut [u32]) -> Result<Reply, Re
     })
 }
 
-/// The rows of the table by row number, or refusal 1, 2 or 3.
-fn read_table<'a>(table: &[u32], rows: &'a mut [Row; MAX_ROWS]) -> Result<&'a [Row], Reply> {
+/// What was found, or else the first refusal of 1 to 4 and 8 that is due.
+fn found(table: &[u32], order: &mut [u32]) -> Result<Reply, Reply> {
+    let mut rows = [Row::NONE; MAX_ROWS];
+    let rows = read_table(table, order.len(), &mut rows)?;
+    let (found, tried) = find::find_order(rows)?;
+    order[..rows.len()].copy_from_slice(&found);
+    Ok(Reply::Found(number(tried)))
+}
+
+/// The rows of the table by row number, or refusal 1, 2, 3 or, with so much room lent, 4.
+fn read_table<'a>(
+    table: &[u32],
+    room: usize,
+    rows: &'a mut [Row; MAX_ROWS],
+) -> Result<&'a [Row], Reply> {
     let (words, rest) = table.as_chunks::<FIELDS>();
     if words.is_empty() || !rest.is_empty() {
         return Err(Reply::Ragged);
@@ -71,6 +99,9 @@ fn read_table<'a>(table: &[u32], rows: &'a mut [Row; MAX_ROWS]) -> Result<&'a [R
     let rows = rows.get_mut(..words.len()).ok_or(Reply::TooMany)?;
     for (at, (row, words)) in rows.iter_mut().zip(words).enumerate() {
         *row = Row::read(words).map_err(|field| Reply::BadRow { row: number(at), field })?;
+    }
+    if room < rows.len() {
+        return Err(Reply::NoRoom);
     }
     Ok(rows)
 }
@@ -97,7 +128,8 @@ fn place_rows<'a>(
     }
 }
 
-/// A row number or place as it is carried; both are below `MAX_ROWS`.
+/// A row number, a place or a count of bands as it is carried; the greatest is a number of bands
+/// tried, at most 64 * 65 / 2.
 fn number(at: usize) -> u32 {
     at as u32
 }

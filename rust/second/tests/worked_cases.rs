@@ -1,8 +1,8 @@
 //! The sums done by hand at the end of document 01, put to the second program.
 
-use second::{judge, Reply};
+use second::{find, judge, Reply};
 
-/// What a lent word holds before the call; no figure is as great.
+/// What a lent word holds before the call; no figure or row number is as great.
 const LENT: u32 = 0xC0DE_C0DE;
 
 /// A row as document 01 writes it: (queue, C, T, D, J), form 0.
@@ -38,6 +38,24 @@ fn refuses(table: &[u32], order: &[u32], reply: Reply) {
     assert_eq!(judged(table, order), (reply, vec![LENT; order.len() + 2]));
 }
 
+/// The reply and all words of a list of so many places lent for the order.
+fn found(table: &[u32], room: usize) -> (Reply, Vec<u32>) {
+    let mut order = vec![LENT; room];
+    let reply = find(table, &mut order);
+    (reply, order)
+}
+
+/// This order is found after so many bands tried, and nothing past it is written.
+fn finds(rows: &[Short], order: &[u32], tried: u32) {
+    let lent = [order, &[LENT, LENT]].concat();
+    assert_eq!(found(&words(rows), rows.len() + 2), (Reply::Found(tried), lent));
+}
+
+/// No order is looked for or none is found, and no word of so much room is altered.
+fn finds_none(table: &[u32], room: usize, reply: Reply) {
+    assert_eq!(found(table, room), (reply, vec![LENT; room]));
+}
+
 #[test]
 fn a_four_priority_rows() {
     answers(&A, &[3, 1, 0, 2], Reply::Passed, &[450, 325, 575, 200]);
@@ -45,6 +63,7 @@ fn a_four_priority_rows() {
 
 #[test]
 fn b_the_order_found_for_a() {
+    finds(&A, &[3, 1, 2, 0], 5);
     answers(&A, &[3, 1, 2, 0], Reply::Passed, &[575, 325, 450, 200]);
 }
 
@@ -53,6 +72,12 @@ fn c_fifo_below_a_priority_row() {
     answers(&C, &[2, 0, 1], Reply::Passed, &[340, 340, 180]);
     // Rows of a FIFO are of one band, in whichever order they are given.
     answers(&C, &[2, 1, 0], Reply::Passed, &[340, 340, 180]);
+}
+
+#[test]
+fn c_the_order_found() {
+    // The FIFO passes at the lowest place, as the first that is tried there.
+    finds(&C, &[2, 0, 1], 2);
 }
 
 #[test]
@@ -82,6 +107,13 @@ fn h_one_row_behind_its_predecessor() {
 }
 
 #[test]
+fn i_no_order() {
+    let table = words(&[(0, 10, 19, 19, 0); 2]);
+    finds_none(&table, 4, Reply::NoOrder { unplaced: 2, tried: 2 });
+    finds_none(&table, 1, Reply::NoRoom);
+}
+
+#[test]
 fn j_jitter_takes_the_whole_deadline() {
     answers(&[(0, 10, 100, 50, 50)], &[0], Reply::Late(0), &[0]);
 }
@@ -97,11 +129,14 @@ fn k_lengths_by_frame_format() {
 
 #[test]
 fn l_tables_that_cannot_be_read() {
-    refuses(&[], &[], Reply::Ragged);
-    refuses(&[0, 0, 10, 100, 100, 0, 0], &[0], Reply::Ragged);
-    let order: Vec<u32> = (0..65).collect();
-    refuses(&words(&[(0, 1, 1000, 1000, 0); 65]), &order, Reply::TooMany);
-    refuses(&[0, 0, 0, 100, 100, 0], &[0], Reply::BadRow { row: 0, field: 3 });
-    refuses(&[0, 1, 9, 1000, 1000, 0], &[0], Reply::BadRow { row: 0, field: 3 });
-    refuses(&[0, 0, 10, 1_000_001, 100, 0], &[0], Reply::BadRow { row: 0, field: 4 });
+    let refused = |table: &[u32], rows: u32, reply: Reply| {
+        refuses(table, &(0..rows).collect::<Vec<_>>(), reply);
+        finds_none(table, rows as usize, reply);
+    };
+    refused(&[], 0, Reply::Ragged);
+    refused(&[0, 0, 10, 100, 100, 0, 0], 1, Reply::Ragged);
+    refused(&words(&[(0, 1, 1000, 1000, 0); 65]), 65, Reply::TooMany);
+    refused(&[0, 0, 0, 100, 100, 0], 1, Reply::BadRow { row: 0, field: 3 });
+    refused(&[0, 1, 9, 1000, 1000, 0], 1, Reply::BadRow { row: 0, field: 3 });
+    refused(&[0, 0, 10, 1_000_001, 100, 0], 1, Reply::BadRow { row: 0, field: 4 });
 }

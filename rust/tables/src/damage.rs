@@ -4,19 +4,21 @@ use crate::fields::{bad_words, Row, LAST_FIFO};
 use crate::prng::Prng;
 use crate::{lent, Case};
 
-/// Damages the case in one way, or in several at once so that the order of the checks tells.
-pub(crate) fn damage(case: &mut Case, prng: &mut Prng) {
+/// One way to damage a case.
+type Way = fn(&mut Case, &mut Prng);
+
+/// The ways that tell when an order is judged.
+pub(crate) const FOR_JUDGING: [Way; 7] =
+    [ragged, too_many, bad_rows, no_room, order_length, bad_entries, split_queue];
+/// The ways that tell when an order is looked for.
+pub(crate) const FOR_FINDING: [Way; 4] = [ragged, too_many, bad_rows, no_room];
+
+/// Damages the case in one of these ways, or in several at once so that the order of the checks
+/// tells.
+pub(crate) fn damage(case: &mut Case, ways: &[Way], prng: &mut Prng) {
     let times = if prng.chance(25) { prng.between(2, 4) } else { 1 };
     for _ in 0..times {
-        let way = prng.pick(&[
-            ragged,
-            too_many,
-            bad_rows,
-            no_room,
-            order_length,
-            bad_entries,
-            split_queue,
-        ]);
+        let way = prng.pick(ways);
         way(case, prng);
     }
 }

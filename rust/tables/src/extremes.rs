@@ -1,9 +1,11 @@
 //! Good tables that go to the limits: fields at their ends, sums past 32 bits, a bus that the
-//! rows above fill to the last bit time.
+//! rows above fill to the last bit time, deadlines that are just enough.
 
 use crate::fields::{Row, LAST_FIFO, MAX_BITS, MAX_BYTES, MAX_PERIOD};
+use crate::orders;
 use crate::plans::Plan;
 use crate::prng::Prng;
+use crate::style::{Length, Style};
 
 /// A few rows whose fields are at an end of what is allowed, or next to it.
 pub(crate) fn at_the_edges(prng: &mut Prng) -> Vec<Row> {
@@ -70,4 +72,32 @@ pub(crate) fn doubling(prng: &mut Prng) -> Plan {
     }
     let order = (0..most).collect();
     Plan { rows, order }
+}
+
+/// Rows that are allowed just the time they take in one made-up order, or a little more; half the
+/// time one row is allowed a bit time less, and then there may be no order.
+///
+/// The periods are so long that no row above counts twice: the figure of a band is the longest C
+/// in it and below, and then the C of every row in it and above.
+pub(crate) fn just_enough(style: &Style, prng: &mut Prng) -> Vec<Row> {
+    let n = prng.between(1, 64);
+    let longest = prng.pick(&[5, 160]);
+    let row = |prng: &mut Prng| style.row(Length::bits(1, longest, prng), MAX_PERIOD, prng);
+    let mut rows: Vec<Row> = (0..n).map(|_| row(prng)).collect();
+    let mut order = orders::bands_of(&rows);
+    prng.shuffle(&mut order);
+    let more = prng.pick(&[0, 0, 1, 200]);
+    let short = prng.between(0, 2 * n - 1);
+    let mut taken = 0;
+    for place in 0..order.len() {
+        let c = |row: &u32| rows[*row as usize][2];
+        let waited = order[place..].iter().flatten().map(c).max().unwrap_or(0);
+        taken += order[place].iter().map(c).sum::<u32>();
+        for &row in &order[place] {
+            let j = prng.between(0, 1_000);
+            let e = waited + taken + prng.between(0, more) - u32::from(row == short);
+            (rows[row as usize][4], rows[row as usize][5]) = (e + j, j);
+        }
+    }
+    rows
 }

@@ -18,6 +18,11 @@ const FORMS: [u32; 5] = [0, 1, 2, 3, MAX];
 const SIZES: [u32; 7] = [0, 1, MAX_BYTES, MAX_BYTES + 1, MAX_BITS, MAX_BITS + 1, MAX];
 const PERIODS: [u32; 6] = [0, 1, 2, MAX_PERIOD, MAX_PERIOD + 1, MAX];
 
+/// The time a good row is allowed after queuing: its deadline less its jitter.
+pub(crate) fn allowed(row: &Row) -> u32 {
+    row[4] - row[5]
+}
+
 /// 0, 1, the words around `greatest`, and the greatest word of all.
 fn around(greatest: u32) -> [u32; 6] {
     [0, 1, greatest.saturating_sub(1), greatest, greatest.saturating_add(1), MAX]

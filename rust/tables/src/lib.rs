@@ -1,10 +1,12 @@
-//! A seeded maker of judging inputs: tables and orders that are good, and ones that are damaged
-//! so that each refusal of document 01 comes up. It knows the limits of the fields; it judges
-//! nothing.
+//! A seeded maker of inputs for judging and for finding: tables and orders that are good, and ones
+//! that are damaged so that each refusal of document 01 comes up. It knows the limits of the
+//! fields; it judges nothing.
 
 mod damage;
 mod extremes;
 mod fields;
+mod find_speed;
+mod finding;
 mod orders;
 mod plans;
 mod prng;
@@ -14,12 +16,16 @@ mod style;
 use std::fmt;
 
 pub use fields::{boundary_rows, Row};
+pub use find_speed::find_families;
+pub use finding::{find_case, FindCase};
+pub use orders::{bands, every_order};
 pub use prng::Prng;
 pub use speed::{families, Family};
 
 /// Of a hundred cases, how many are damaged.
 const DAMAGED: u32 = 45;
-/// Set in every lent word beforehand: no figure has it, so a word left alone can be told.
+/// Set in every lent word beforehand: no figure and no row number has it, so a word left alone can
+/// be told.
 const CANARY: u32 = 1 << 31;
 
 /// One input for a judge.
@@ -39,14 +45,9 @@ pub struct Case {
 pub fn case(seed: u64) -> Case {
     let mut prng = Prng::new(seed);
     let plan = plans::any(&mut prng);
-    let spare = match prng.below(10) {
-        0..=3 => 0,
-        4..=7 => prng.below(8),
-        _ => prng.below(100),
-    };
-    let mut case = Case::of(seed, &plan.rows, plan.order, spare, &mut prng);
+    let mut case = Case::of(seed, &plan.rows, plan.order, spare(&mut prng), &mut prng);
     if prng.chance(DAMAGED) {
-        damage::damage(&mut case, &mut prng);
+        damage::damage(&mut case, &damage::FOR_JUDGING, &mut prng);
     }
     case
 }
@@ -70,25 +71,46 @@ impl Case {
     /// that the band of `late_row` is late.
     pub fn tightened(&self, figures: &[u32], late_row: Option<usize>) -> Case {
         let mut tight = self.clone();
-        for (at, (row, figure)) in tight.table.chunks_exact_mut(6).zip(figures).enumerate() {
-            row[4] = row[5] + figure - u32::from(late_row == Some(at));
-        }
+        tighten(&mut tight.table, figures, late_row);
         tight
     }
 }
 
-/// A lent list of so many words, each of them made up and above any figure.
+/// Cuts each deadline to what is just enough for these figures, and that of `late_row` to one bit
+/// time less.
+fn tighten(table: &mut [u32], figures: &[u32], late_row: Option<usize>) {
+    for (at, (row, figure)) in table.chunks_exact_mut(6).zip(figures).enumerate() {
+        row[4] = row[5] + figure - u32::from(late_row == Some(at));
+    }
+}
+
+/// How many places a lent list has to spare: none, a few, or many.
+fn spare(prng: &mut Prng) -> usize {
+    match prng.below(10) {
+        0..=3 => 0,
+        4..=7 => prng.below(8),
+        _ => prng.below(100),
+    }
+}
+
+/// A lent list of so many words, each of them made up and above any figure or row number.
 fn lent(words: usize, prng: &mut Prng) -> Vec<u32> {
     (0..words).map(|_| prng.word() as u32 | CANARY).collect()
 }
 
 impl fmt::Display for Case {
     fn fmt(&self, f: &mut fmt::Formatter) -> fmt::Result {
-        writeln!(f, "seed {}, a table of {} words:", self.seed, self.table.len())?;
-        for (row, words) in self.table.chunks(6).enumerate() {
-            writeln!(f, "  row {row}: {words:?}")?;
-        }
+        show_table(f, self.seed, &self.table)?;
         writeln!(f, "an order of {} entries: {:?}", self.order.len(), self.order)?;
-        write!(f, "a lent list of {} words: {:08x?}", self.figures.len(), self.figures)
+        show_lent(f, &self.figures)
     }
+}
+
+fn show_table(f: &mut fmt::Formatter, seed: u64, table: &[u32]) -> fmt::Result {
+    writeln!(f, "seed {seed}, a table of {} words:", table.len())?;
+    table.chunks(6).enumerate().try_for_each(|(row, words)| writeln!(f, "  row {row}: {words:?}"))
+}
+
+fn show_lent(f: &mut fmt::Formatter, lent: &[u32]) -> fmt::Result {
+    write!(f, "a lent list of {} words: {lent:08x?}", lent.len())
 }

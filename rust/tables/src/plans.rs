@@ -33,7 +33,12 @@ pub(crate) fn any(prng: &mut Prng) -> Plan {
 }
 
 /// Up to `most` rows of such lengths, for a load of 5 to 150 percent.
-fn loaded(style: &Style, most: u32, prng: &mut Prng, length: fn(&mut Prng) -> Length) -> Vec<Row> {
+pub(crate) fn loaded(
+    style: &Style,
+    most: u32,
+    prng: &mut Prng,
+    length: fn(&mut Prng) -> Length,
+) -> Vec<Row> {
     let n = prng.between(1, most);
     let load = prng.between(5, 150);
     let mut row = || {

@@ -7,21 +7,21 @@ use crate::prng::Prng;
 use crate::style::{Length, Style};
 use crate::Case;
 
-const ROWS: u32 = 64;
+pub(crate) const ROWS: u32 = 64;
 
 /// Makes the rows of one table.
-type Maker = fn(&mut Prng) -> Vec<Row>;
+pub(crate) type Maker = fn(&mut Prng) -> Vec<Row>;
 
-/// Tables of one kind, each with a good order and just enough room.
-pub struct Family {
+/// Cases of one kind, each with just enough room.
+pub struct Family<C> {
     /// What kind they are of.
     pub name: &'static str,
-    /// The tables.
-    pub cases: Vec<Case>,
+    /// The cases.
+    pub cases: Vec<C>,
 }
 
-/// All families, with so many tables each.
-pub fn families(tables: u64) -> Vec<Family> {
+/// All families for judging, with so many tables each, and a good order of each table.
+pub fn families(tables: u64) -> Vec<Family<Case>> {
     let kinds: [(&'static str, Maker); 5] = [
         ("easy", easy),
         ("typical", typical),
@@ -29,12 +29,14 @@ pub fn families(tables: u64) -> Vec<Family> {
         ("overfull", overfull),
         ("nearly full", nearly_full),
     ];
-    kinds
-        .map(|(name, rows)| Family {
-            name,
-            cases: (0..tables).map(|seed| case(seed, rows)).collect(),
-        })
-        .into()
+    kinds.map(|(name, rows)| Family::new(name, tables, |seed| case(seed, rows))).into()
+}
+
+impl<C> Family<C> {
+    /// So many cases, each made from its seed.
+    pub(crate) fn new(name: &'static str, tables: u64, case: impl Fn(u64) -> C) -> Family<C> {
+        Family { name, cases: (0..tables).map(case).collect() }
+    }
 }
 
 fn case(seed: u64, rows: Maker) -> Case {
@@ -44,7 +46,7 @@ fn case(seed: u64, rows: Maker) -> Case {
 }
 
 /// Priority rows only, with this least deadline and greatest jitter in hundredths.
-fn priority(deadline: u32, jitter: u32) -> Style {
+pub(crate) fn priority(deadline: u32, jitter: u32) -> Style {
     Style { fifos: Vec::new(), in_fifo: 0, deadline, jitter }
 }
 
@@ -68,13 +70,13 @@ fn fifo_mixed(prng: &mut Prng) -> Vec<Row> {
 }
 
 /// Half as much again as the bus can carry.
-fn overfull(prng: &mut Prng) -> Vec<Row> {
+pub(crate) fn overfull(prng: &mut Prng) -> Vec<Row> {
     let style = priority(80, 5);
     (0..ROWS).map(|_| share(&style, Length::either(55, 160, prng), ROWS, 150, prng)).collect()
 }
 
 /// As on a vehicle's bus, with periods so much shorter that most tables just pass and some do not.
-fn nearly_full(prng: &mut Prng) -> Vec<Row> {
+pub(crate) fn nearly_full(prng: &mut Prng) -> Vec<Row> {
     let style = priority(100, 0);
     let period = |prng: &mut Prng| prng.of_any_magnitude(2_000, 200_000);
     (0..ROWS).map(|_| style.row(Length::either(55, 160, prng), period(prng), prng)).collect()

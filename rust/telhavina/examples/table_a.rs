@@ -1,7 +1,8 @@
-//! Judges table a of the published document and prints it as a person reads it: highest priority first, with each
-//! message's figure and the time it is allowed.
+//! Judges an order of table a of the published document, then finds one, and prints both as a
+//! person reads them: highest priority first, with each message's figure and the time it is
+//! allowed.
 
-use telhavina::{judge, Judgement};
+use telhavina::{find, judge, Finding, Judgement};
 
 const NAMES: [&str; 4] = ["A", "F", "B", "C"];
 const TABLE: [u32; 24] = [
@@ -13,10 +14,24 @@ const TABLE: [u32; 24] = [
 const ORDER: [u32; 4] = [3, 1, 0, 2];
 
 fn main() {
+    println!("a given order");
+    print_judged(ORDER);
+
+    let mut order = [0; 4];
+    match find(&TABLE, &mut order) {
+        Finding::Found { tried } => {
+            println!("\nthe order found, {tried} tried");
+            print_judged(order);
+        }
+        Finding::Refused(refusal) => println!("\n{refusal}"),
+    }
+}
+
+fn print_judged(order: [u32; 4]) {
     let mut figures = [0; 4];
-    let judgement = judge(&TABLE, &ORDER, &mut figures);
+    let judgement = judge(&TABLE, &order, &mut figures);
     println!("message  row  figure  allowed");
-    for row in ORDER.map(|row| row as usize) {
+    for row in order.map(|row| row as usize) {
         let allowed = TABLE[row * 6 + 4] - TABLE[row * 6 + 5];
         println!("{:<7}  {row:>3}  {:>6}  {allowed:>7}", NAMES[row], figures[row]);
     }

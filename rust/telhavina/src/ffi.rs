@@ -18,6 +18,12 @@ unsafe extern "C" {
         figures: *mut u32,
         figures_len: usize,
     ) -> Reply;
+    fn telhavina_find(
+        table: *const u32,
+        table_len: usize,
+        order: *mut u32,
+        order_len: usize,
+    ) -> Reply;
 }
 
 /// The library's reply on this table and order; `figures` is lent to it for the call.
@@ -38,20 +44,40 @@ pub(crate) fn judge(table: &[u32], order: &[u32], figures: &mut [u32]) -> Reply 
     }
 }
 
+/// The library's reply on this table; `order` is lent to it for the call.
+pub(crate) fn find(table: &[u32], order: &mut [u32]) -> Reply {
+    // SAFETY: as for judging. The words of `order` are writable and not shared with the table.
+    unsafe { telhavina_find(table.as_ptr(), table.len(), order.as_mut_ptr(), order.len()) }
+}
+
 #[cfg(test)]
 mod tests {
+    use super::{find, judge, Reply};
+
+    /// How many numbers the reply with this number carries.
+    fn carried(number: u32) -> u32 {
+        match number {
+            3 | 8 => 2,
+            6 | 7 | 101 | 102 => 1,
+            _ => 0,
+        }
+    }
+
+    fn rest_is_0(reply: Reply) -> bool {
+        let carried = carried(reply.number);
+        (carried >= 1 || reply.first == 0) && (carried == 2 || reply.second == 0)
+    }
+
     // The C interface: a place of the reply that carries nothing is 0.
     #[test]
     fn what_is_not_carried_is_0() {
         for mut case in (0..20_000).map(tables::case) {
-            let reply = super::judge(&case.table, &case.order, &mut case.figures);
-            let carried = match reply.number {
-                3 => 2,
-                6 | 7 | 101 => 1,
-                _ => 0,
-            };
-            assert!(carried >= 1 || reply.first == 0, "{case}");
-            assert!(carried == 2 || reply.second == 0, "{case}");
+            let reply = judge(&case.table, &case.order, &mut case.figures);
+            assert!(rest_is_0(reply), "{case}");
+        }
+        for mut case in (0..20_000).map(tables::find_case) {
+            let reply = find(&case.table, &mut case.order);
+            assert!(rest_is_0(reply), "{case}");
         }
     }
 }

@@ -1,9 +1,11 @@
-//! Judges the priority order of a table of CAN messages.
+//! Judges the priority order of a table of CAN messages, and finds one.
 //!
 //! Given which messages a bus has to carry and in which order of priority, [`judge`] says for
 //! each message the longest time it can take from being queued to being wholly sent, or that no
-//! such time within its deadline can be promised. The sums are those of a proved library, linked
-//! in statically; this crate adds safe types and nothing else. All times are whole bit times.
+//! such time within its deadline can be promised. Given the messages alone, [`find`] gives an
+//! order that passes this judgement, or says that there is none. Both are done by a proved
+//! library, linked in statically; this crate adds safe types and nothing else. All times are whole
+//! bit times.
 //!
 //! # The table
 //!
@@ -21,12 +23,13 @@
 //! # The order and the figures
 //!
 //! The order lists all row numbers, highest priority first, and keeps the rows of each FIFO
-//! together. The caller lends a list for the figures with a place for each row, or more: the
-//! figure of row i comes to place i, whatever the order, and places past the last row are not
-//! written. A refusal alters no place at all.
+//! together. The caller lends a list for the answer with a place for each row, or more. Judging
+//! puts the figure of row i at place i, whatever the order; finding puts the order into the first
+//! places, with the rows of a FIFO in rising row number. Places past the last row are not written,
+//! and a refusal alters no place at all.
 //!
 //! ```
-//! use telhavina::{judge, Judgement, Refusal};
+//! use telhavina::{find, judge, Finding, Judgement, Refusal};
 //!
 //! let table = [
 //!     1, 0, 100, 1000, 1000, 0, // row 0, in FIFO 1
@@ -41,6 +44,12 @@
 //! let split = Refusal::SplitQueue { place: 2 };
 //! assert_eq!(judge(&table, &[0, 2, 1], &mut figures), Judgement::Refused(split));
 //! assert_eq!(figures, [340, 340, 180]);
+//!
+//! // That first order is also the one that is found: the FIFO passes at the lowest place, as the
+//! // first band tried there, and then the priority row above it.
+//! let mut order = [0; 3];
+//! assert_eq!(find(&table, &mut order), Finding::Found { tried: 2 });
+//! assert_eq!(order, [2, 0, 1]);
 //! ```
 //!
 //! # Building
@@ -56,6 +65,7 @@ pub use refusal::Refusal;
 
 const PASSED: u32 = 100;
 const LATE: u32 = 101;
+const FOUND: u32 = 102;
 
 /// What is said of an order.
 #[derive(Debug, Clone, Copy, PartialEq, Eq)]
@@ -73,15 +83,44 @@ pub enum Judgement {
     Refused(Refusal),
 }
 
+/// What comes of looking for an order.
+#[derive(Debug, Clone, Copy, PartialEq, Eq)]
+#[must_use]
+pub enum Finding {
+    /// There is an order that passes, and it stands in the first places of the lent list.
+    Found {
+        /// How many bands were tried, at all places together.
+        tried: usize,
+    },
+    /// The question could not be taken, or there is no order that passes; no place was written.
+    Refused(Refusal),
+}
+
 /// Judges `order` over `table` and writes the figure of row i to place i of `figures`.
 ///
-/// Any input is answered: nothing need be checked beforehand. Where several refusals are due, the
-/// one with the least number is given.
+/// Any input is answered: nothing need be checked beforehand. The refusals are 1 to 7; where
+/// several are due, the one with the least number is given.
 pub fn judge(table: &[u32], order: &[u32], figures: &mut [u32]) -> Judgement {
     let reply = ffi::judge(table, order, figures);
     match reply.number {
         PASSED => Judgement::Passed,
         LATE => Judgement::Late { place: reply.first as usize },
         number => Judgement::Refused(Refusal::of(number, reply.first, reply.second)),
+    }
+}
+
+/// Finds an order over `table` that passes and writes it to the first places of `order`.
+///
+/// The lowest place is filled first. At each place the bands that are left are tried in rising
+/// order of their first row, and the first that passes there is placed; a band is a priority row
+/// or a whole FIFO. If none passes, no order of these messages does.
+///
+/// Any input is answered: nothing need be checked beforehand. The refusals are 1 to 4 and 8; where
+/// several are due, the one with the least number is given.
+pub fn find(table: &[u32], order: &mut [u32]) -> Finding {
+    let reply = ffi::find(table, order);
+    match reply.number {
+        FOUND => Finding::Found { tried: reply.first as usize },
+        number => Finding::Refused(Refusal::of(number, reply.first, reply.second)),
     }
 }

@@ -3,7 +3,9 @@
 use std::error::Error;
 use std::fmt;
 
-/// Why a question could not be taken. Rows and places count from 0, fields from 1.
+/// Why a question was refused. Rows and places count from 0, fields from 1.
+///
+/// Judging can give 1 to 7, finding 1 to 4 and 8.
 #[derive(Debug, Clone, Copy, PartialEq, Eq)]
 pub enum Refusal {
     /// 1: the table has no words, or not a multiple of six.
@@ -17,7 +19,7 @@ pub enum Refusal {
         /// Its lowest bad field, 1 to 6.
         field: usize,
     },
-    /// 4: the list lent for figures is shorter than the table has rows.
+    /// 4: the list lent for the figures, or for the order, is shorter than the table has rows.
     NoRoom,
     /// 5: the order has not as many entries as the table has rows.
     OrderLength,
@@ -30,6 +32,14 @@ pub enum Refusal {
     SplitQueue {
         /// The first place that does.
         place: usize,
+    },
+    /// 8: no order of these messages keeps every deadline. At some place, counted from the lowest
+    /// up, none of the bands that were left passes; a band is a priority row or a whole FIFO.
+    NoOrder {
+        /// The bands that were left.
+        unplaced: usize,
+        /// How many bands were tried, at all places together.
+        tried: usize,
     },
 }
 
@@ -45,7 +55,10 @@ impl Refusal {
             5 => Refusal::OrderLength,
             6 => Refusal::OrderEntry { place: first },
             7 => Refusal::SplitQueue { place: first },
-            _ => unreachable!("the library replied {number}, which is no reply of a judge"),
+            8 => Refusal::NoOrder { unplaced: first, tried: second },
+            _ => {
+                unreachable!("the library replied {number}, which is no refusal of the desk's list")
+            }
         }
     }
 
@@ -59,6 +72,7 @@ impl Refusal {
             Refusal::OrderLength => 5,
             Refusal::OrderEntry { .. } => 6,
             Refusal::SplitQueue { .. } => 7,
+            Refusal::NoOrder { .. } => 8,
         }
     }
 }
@@ -72,7 +86,9 @@ impl fmt::Display for Refusal {
             Refusal::BadRow { row, field } => {
                 write!(f, "field {field} of row {row} of the table is not allowed.")
             }
-            Refusal::NoRoom => write!(f, "the list lent for figures has no place for every row."),
+            Refusal::NoRoom => {
+                write!(f, "the list lent for the answer has no place for every row.")
+            }
             Refusal::OrderLength => write!(f, "the order has not one entry for each row."),
             Refusal::OrderEntry { place } => {
                 write!(f, "place {place} of the order holds no row of the table, or one repeated.")
@@ -80,6 +96,11 @@ impl fmt::Display for Refusal {
             Refusal::SplitQueue { place } => {
                 write!(f, "place {place} of the order resumes a FIFO that was already left.")
             }
+            Refusal::NoOrder { unplaced, tried } => write!(
+                f,
+                "no order of these messages keeps every deadline (bands left without a place: \
+                 {unplaced}, bands tried: {tried})."
+            ),
         }
     }
 }

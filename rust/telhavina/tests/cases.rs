@@ -1,32 +1,14 @@
 //! 'Sums done by hand' of document 01, put to the library across the C boundary. Every word of
 //! the lent list is looked at, those past the last row too.
 
+mod rows;
+
+use rows::{words, Short, A, C, GOOD, LENT, SPARE};
 use telhavina::{judge, Judgement, Refusal};
 
 use Judgement::{Late, Passed, Refused};
 
-/// What a lent word holds before the call; no figure is as great.
-const LENT: u32 = 0xC0DE_C0DE;
-/// Places in the lent list past those that the rows need.
-const SPARE: usize = 3;
-
-/// A row as document 01 writes it: (queue, C, T, D, J), form 0.
-type Short = (u32, u32, u32, u32, u32);
-
-const A: [Short; 4] = [
-    (0, 125, 1000, 750, 0),
-    (0, 125, 1000, 350, 0),
-    (0, 125, 1000, 750, 0),
-    (0, 75, 1000, 1000, 0),
-];
-const C: [Short; 3] = [(1, 100, 1000, 1000, 0), (1, 60, 1000, 600, 0), (0, 80, 500, 500, 0)];
 const F: [Short; 2] = [(0, 10, 30, 30, 0), (0, 20, 100, 100, 0)];
-/// A good row, for tables where something else is wrong.
-const GOOD: [u32; 6] = [0, 0, 10, 100, 100, 0];
-
-fn words(rows: &[Short]) -> Vec<u32> {
-    rows.iter().flat_map(|&(queue, c, t, d, j)| [queue, 0, c, t, d, j]).collect()
-}
 
 /// The order is answered so, with these figures by row, and no place past them is written.
 #[track_caller]

@@ -1,7 +1,8 @@
 //! 'Checks run in the order 1 to 7' of document 01: of two refusals that are both due, the lower
-//! is given, with the first offending place, and no lent word is altered.
+//! is given, with the first offending place, and no lent word is altered. Checks 1 to 4 are the
+//! same for judging and for finding.
 
-use telhavina::{judge, Judgement, Refusal};
+use telhavina::{find, judge, Finding, Judgement, Refusal};
 
 /// What a lent word holds before the call.
 const LENT: u32 = 0xC0DE_C0DE;
@@ -19,19 +20,43 @@ fn refuses(table: &[u32], order: &[u32], room: usize, refusal: Refusal) {
     assert_eq!(lent, vec![LENT; room]);
 }
 
+/// So is the question for an order.
+#[track_caller]
+fn finding_refuses(table: &[u32], room: usize, refusal: Refusal) {
+    let mut lent = vec![LENT; room];
+    assert_eq!(find(table, &mut lent), Finding::Refused(refusal));
+    assert_eq!(lent, vec![LENT; room]);
+}
+
+/// Both are.
+#[track_caller]
+fn both_refuse(table: &[u32], order: &[u32], room: usize, refusal: Refusal) {
+    refuses(table, order, room, refusal);
+    finding_refuses(table, room, refusal);
+}
+
 #[test]
 fn ragged_before_too_many() {
-    refuses(&[0; 65 * 6 + 1], &[], 0, Refusal::Ragged);
+    both_refuse(&[0; 65 * 6 + 1], &[], 0, Refusal::Ragged);
 }
 
 #[test]
 fn too_many_before_bad_row() {
-    refuses(&BAD.repeat(65), &[], 0, Refusal::TooMany);
+    both_refuse(&BAD.repeat(65), &[], 0, Refusal::TooMany);
 }
 
 #[test]
 fn bad_row_before_no_room() {
-    refuses(&BAD, &[0], 0, Refusal::BadRow { row: 0, field: 2 });
+    both_refuse(&BAD, &[0], 0, Refusal::BadRow { row: 0, field: 2 });
+}
+
+// Two rows that can never pass, as 2C is 20: with room for one of them that is not yet told.
+#[test]
+fn no_room_before_no_order() {
+    let table = [0, 0, 10, 100, 19, 0].repeat(2);
+    finding_refuses(&table, 0, Refusal::NoRoom);
+    finding_refuses(&table, 1, Refusal::NoRoom);
+    finding_refuses(&table, 2, Refusal::NoOrder { unplaced: 2, tried: 2 });
 }
 
 #[test]
@@ -62,8 +87,8 @@ fn lowest_row_then_lowest_field() {
     let mut high_field = GOOD;
     high_field[5] = 101;
     let refusal = Refusal::BadRow { row: 1, field: 6 };
-    refuses(&[GOOD, high_field, low_field].concat(), &[0, 1, 2], 3, refusal);
-    refuses(&[GOOD, BAD].concat(), &[0, 1], 2, Refusal::BadRow { row: 1, field: 2 });
+    both_refuse(&[GOOD, high_field, low_field].concat(), &[0, 1, 2], 3, refusal);
+    both_refuse(&[GOOD, BAD].concat(), &[0, 1], 2, Refusal::BadRow { row: 1, field: 2 });
 }
 
 #[test]
@@ -72,7 +97,7 @@ fn each_field_has_its_own_number() {
     for (at, word) in bad.into_iter().enumerate() {
         let mut row = GOOD;
         row[at] = word;
-        refuses(&row, &[0], 1, Refusal::BadRow { row: 0, field: at + 1 });
+        both_refuse(&row, &[0], 1, Refusal::BadRow { row: 0, field: at + 1 });
     }
 }
 
@@ -108,6 +133,12 @@ fn in_words() {
         split.to_string(),
         "Refusal 7: place 5 of the order resumes a FIFO that was already left."
     );
+    let no_order = Refusal::NoOrder { unplaced: 3, tried: 17 };
+    assert_eq!(
+        no_order.to_string(),
+        "Refusal 8: no order of these messages keeps every deadline (bands left without a place: \
+         3, bands tried: 17)."
+    );
     let all = [
         Refusal::Ragged,
         Refusal::TooMany,
@@ -116,6 +147,7 @@ fn in_words() {
         Refusal::OrderLength,
         Refusal::OrderEntry { place: 0 },
         split,
+        no_order,
     ];
     for (refusal, number) in all.iter().zip(1..) {
         assert_eq!(refusal.number(), number);

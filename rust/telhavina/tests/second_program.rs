@@ -2,11 +2,12 @@
 //! every word of the lent list must be the same. `-- --nocapture` shows how often each reply
 //! kind came up.
 
-use std::collections::BTreeMap;
+mod compare;
 
+use compare::{number, refused, same, Outcome, Tally};
 use second::Reply;
 use tables::{boundary_rows, Case, Prng};
-use telhavina::{Judgement, Refusal};
+use telhavina::Judgement;
 
 /// Made-up cases; their seeds are 0 to one less.
 const CASES: u64 = 100_000;
@@ -15,68 +16,22 @@ const LEAST: u32 = 100;
 /// Passed, late, and refusals 1 to 7.
 const KINDS: usize = 9;
 
-/// How often each reply kind came up.
-#[derive(Default)]
-struct Tally(BTreeMap<&'static str, u32>);
-
-impl Tally {
-    fn count(&mut self, reply: Reply) {
-        *self.0.entry(kind(reply)).or_default() += 1;
-    }
-
-    fn print(&self, what: &str) {
-        println!("{what}:");
-        for (kind, times) in &self.0 {
-            println!("  {kind:15} {times:6}");
-        }
-    }
-}
-
-fn kind(reply: Reply) -> &'static str {
-    match reply {
-        Reply::Passed => "passed",
-        Reply::Late(_) => "late",
-        Reply::Ragged => "1 ragged",
-        Reply::TooMany => "2 too many",
-        Reply::BadRow { .. } => "3 bad row",
-        Reply::NoRoom => "4 no room",
-        Reply::OrderLength => "5 order length",
-        Reply::OrderEntry(_) => "6 order entry",
-        Reply::SplitQueue(_) => "7 split queue",
-    }
-}
-
 /// The library's judgement as the second program would say it.
 fn as_reply(judgement: Judgement) -> Reply {
-    let number = |at: usize| u32::try_from(at).expect("rows, fields and places are small");
     match judgement {
         Judgement::Passed => Reply::Passed,
         Judgement::Late { place } => Reply::Late(number(place)),
-        Judgement::Refused(refusal) => match refusal {
-            Refusal::Ragged => Reply::Ragged,
-            Refusal::TooMany => Reply::TooMany,
-            Refusal::BadRow { row, field } => {
-                Reply::BadRow { row: number(row), field: number(field) }
-            }
-            Refusal::NoRoom => Reply::NoRoom,
-            Refusal::OrderLength => Reply::OrderLength,
-            Refusal::OrderEntry { place } => Reply::OrderEntry(number(place)),
-            Refusal::SplitQueue { place } => Reply::SplitQueue(number(place)),
-        },
+        Judgement::Refused(refusal) => refused(refusal),
     }
 }
 
 /// Both programs give the same reply and leave the same lent list: these are given back.
 #[track_caller]
-fn agreed(case: &Case) -> (Reply, Vec<u32>) {
+fn agreed(case: &Case) -> Outcome {
     let (mut figures, mut expected) = (case.figures.clone(), case.figures.clone());
     let reply = as_reply(telhavina::judge(&case.table, &case.order, &mut figures));
     let expected_reply = second::judge(&case.table, &case.order, &mut expected);
-    assert!(
-        reply == expected_reply && figures == expected,
-        "{case}\nthe library: {reply:?}\n  {figures:?}\nthe second program: {expected_reply:?}\n  {expected:?}"
-    );
-    (reply, figures)
+    same(case, (reply, figures), (expected_reply, expected))
 }
 
 #[test]
@@ -86,8 +41,7 @@ fn made_up_tables() {
         tally.count(agreed(&case).0);
     }
     tally.print("made-up tables");
-    assert_eq!(tally.0.len(), KINDS, "some reply kind never came up");
-    assert!(tally.0.values().all(|&times| times >= LEAST), "some reply kind was rare");
+    tally.has(KINDS, LEAST);
 }
 
 // 'R no more than the least E': deadlines that are just enough for the figures pass, and one bit

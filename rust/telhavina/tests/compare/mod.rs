@@ -1,0 +1,87 @@
+//! What the library answers beside what the second program does, in the words of the second.
+
+use std::collections::BTreeMap;
+use std::fmt::Display;
+
+use second::Reply;
+use telhavina::Refusal;
+
+/// A reply, and what the lent list holds then.
+pub type Outcome = (Reply, Vec<u32>);
+
+/// The outcome that both programs give on this case.
+#[track_caller]
+pub fn same(case: &impl Display, library: Outcome, second: Outcome) -> Outcome {
+    assert!(
+        library == second,
+        "{case}\nthe library: {:?}\n  {:?}\nthe second program: {:?}\n  {:?}",
+        library.0,
+        library.1,
+        second.0,
+        second.1
+    );
+    library
+}
+
+/// How often each reply kind came up.
+#[derive(Default)]
+pub struct Tally(BTreeMap<&'static str, u32>);
+
+impl Tally {
+    pub fn count(&mut self, reply: Reply) {
+        *self.0.entry(kind(reply)).or_default() += 1;
+    }
+
+    pub fn print(&self, what: &str) {
+        println!("{what}:");
+        for (kind, times) in &self.0 {
+            println!("  {kind:19} {times:6}");
+        }
+    }
+
+    /// So many kinds came up, each at least so often.
+    #[track_caller]
+    pub fn has(&self, kinds: usize, least: u32) {
+        assert_eq!(self.0.len(), kinds, "some reply kind never came up");
+        assert!(self.0.values().all(|&times| times >= least), "some reply kind was rare");
+    }
+}
+
+fn kind(reply: Reply) -> &'static str {
+    match reply {
+        Reply::Passed => "passed",
+        Reply::Late(_) => "late",
+        Reply::Found(_) => "found",
+        Reply::Ragged => "1 ragged",
+        Reply::TooMany => "2 too many",
+        Reply::BadRow { .. } => "3 bad row",
+        Reply::NoRoom => "4 no room",
+        Reply::OrderLength => "5 order length",
+        Reply::OrderEntry(_) => "6 order entry",
+        Reply::SplitQueue(_) => "7 split queue",
+        // At the lowest place already, or at a higher one.
+        Reply::NoOrder { unplaced, tried } if tried == unplaced => "8 no order, at once",
+        Reply::NoOrder { .. } => "8 no order, later",
+    }
+}
+
+/// The library's refusal as the second program would say it.
+pub fn refused(refusal: Refusal) -> Reply {
+    match refusal {
+        Refusal::Ragged => Reply::Ragged,
+        Refusal::TooMany => Reply::TooMany,
+        Refusal::BadRow { row, field } => Reply::BadRow { row: number(row), field: number(field) },
+        Refusal::NoRoom => Reply::NoRoom,
+        Refusal::OrderLength => Reply::OrderLength,
+        Refusal::OrderEntry { place } => Reply::OrderEntry(number(place)),
+        Refusal::SplitQueue { place } => Reply::SplitQueue(number(place)),
+        Refusal::NoOrder { unplaced, tried } => {
+            Reply::NoOrder { unplaced: number(unplaced), tried: number(tried) }
+        }
+    }
+}
+
+/// What a reply carries, as the second program counts it.
+pub fn number(carried: usize) -> u32 {
+    u32::try_from(carried).expect("rows, fields, places and bands are few")
+}
