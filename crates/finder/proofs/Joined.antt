@@ -1,13 +1,13 @@
 -- What is found over columns is found over the words that they were read from. Assumes nothing.
-use Prim.Native.Nat.{ℕ, zero, suc, _+_, _≤_, _<_}
+use Prim.Native.Nat.{ℕ, suc, _+_, _≤_, _<_}
 use native.Mathlib.Nat.{le-refl}
 use native.Mathlib.Omega.{arith}
 use mathlib.Core.Path.{_≡_, refl, sym, ap, ap₂, subst, subst₂}
-use mathlib.Core.Bool.{Bool, not, cond, _&&_}
-use mathlib.Core.List.{List, [], _∷_, _++_}
+use mathlib.Core.Bool.{Bool, not, _&&_}
+use mathlib.Core.List.{List, [], _++_}
 use lib.ListN.{length}
 use lib.Dec.{eqb}
-use Rattle.sums.specs.Masks.{Mask, except}
+use Rattle.sums.specs.Masks.{except}
 use Rattle.sums.specs.MaskLaws.{any-same}
 use Rattle.sums.specs.Sums.{count}
 use Rattle.sums.specs.Least.{Fits}
@@ -21,13 +21,9 @@ use Rattle.intake.specs.Words.{rows, tableOf}
 use Rattle.intake.specs.Answer.{Answer}
 use Rattle.intake.specs.Laws.{replied-answered}
 use Rattle.intake.specs.Holds.{Holds, TakenIn}
-use Rattle.finder.specs.Placing.{Ending, none, rising, leads, unplaced, placing, free, candidate, Stands, Finds, done, place, stuck}
+use Rattle.finder.specs.Placing.{Ending, none, leads, unplaced, placing, free, candidate, Stands, Finds, done, place, stuck}
+use Rattle.finder.specs.Rising.{rising-same}
 use Rattle.finder.specs.Searched.{Answered, Searched}
-
-rising-same : (n : ℕ) (m m′ : Mask) → SameRows n m m′ → rising n m ≡ rising n m′
-unfolding rising
-rising-same zero m m′ h = refl
-rising-same (suc n) m m′ h = ap₂ (λ (l : List ℕ) (b : Bool). l ++ cond b (n ∷ []) []) (rising-same n m m′ (λ k l. h k (omega arith))) (h n (le-refl (suc n)))
 
 module _ (τ : Table) (c t j e key : List ℕ) (h : Holds τ (τ .n) c t j e key) where
   abbrev σ : Table

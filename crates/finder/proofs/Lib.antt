@@ -1,5 +1,10 @@
 pub mod Stack
-pub mod Putting
-pub mod Verdicts
+pub mod Turning
+pub mod Shifting
+pub mod Sorted
+pub mod ByBand
+pub mod Lining
+pub mod Waiting
 pub mod Search
+pub mod Turns
 pub mod Joined

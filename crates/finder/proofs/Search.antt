@@ -1,41 +1,48 @@
--- The search place by place: what is known before each place and of the bands tried at it, and that each turn follows the placing rule.
--- Assumes nothing.
-use Prim.Native.Nat.{ℕ, _+_, _-_, _*_, _≤_, _<_}
-use native.Mathlib.Decide.{ℕ-discrete}
+-- The search place by place: what is known before each place, that the verdict on the run of the band that comes next is the verdict that
+-- the placing rule asks for, and that each turn follows the rule. Assumes nothing.
+use Prim.Native.Nat.{ℕ, zero, suc, _+_, _-_, _*_, _≤_, _<_, max}
+use native.Mathlib.Decide.{decLt}
 use native.Mathlib.Omega.{arith}
-use borrow.Author.Count.{below-more}
 use mathlib.Core.Path.{_≡_, refl, sym, ap, ap₂, subst, subst₂, _∙_}
-use mathlib.Core.Logic.{_⊎_, inl, inr}
 use mathlib.Core.Bool.{Bool, true, false, not, cond, _&&_, _||_, and-true}
 use mathlib.Core.List.{List, [], _++_}
-use lib.ListN.{length, set, take, drop, replicate, getD-replicate, length-append}
-use lib.Seq.{slice, slice-empty, length-slice, getD-set-same, getD-set-other}
-use lib.Dec.{T as Is, eqb, T-not}
-use Rattle.sums.specs.Masks.{Mask, except, Place, at as here, nowhere, lowest}
-use Rattle.sums.specs.MaskLaws.{which, same-test, Lowest, is-at, is-none, lowest-is}
-use Rattle.sums.specs.Columns.{at, flagged}
-use Rattle.sums.specs.Sums.{count}
-use Rattle.sums.specs.Least.{Fits}
-use Rattle.sums.specs.Laws.{over-none, over-next, over-same}
+use lib.ListN.{length, length-append}
+use lib.Dec.{T as Is, eqb, eqb→eq, T-not, not-T}
+use borrow.Author.Tests.{lt-ltb, le-ltb, le-leb, lt-leb, eq-eqb, ne-eqb}
+use Rattle.sums.specs.Masks.{Mask, except, run}
+use Rattle.sums.specs.MaskLaws.{same-test, and-left, and-intro}
+use Rattle.sums.specs.Columns.{at}
+use Rattle.sums.specs.Sums.{over, count, maxOver}
+use Rattle.sums.specs.Laws.{over-same, over-empty}
+use Rattle.sums.specs.Runs.{run-beyond}
 use Rattle.licence.specs.Limit.{limit}
-use Rattle.order.specs.Table.{Table, band}
-use Rattle.order.specs.Orders.{mem}
-use Rattle.order.specs.Lists.{mem-at}
-use Rattle.order.specs.Counting.{count-le, count-list, count-all, count-full}
-use Rattle.order.specs.Sheet.{sheet, ownOf}
-use Rattle.order.specs.Same.{SameRows, same, same-back}
-use Rattle.intake.specs.Held.{Held}
-use Rattle.finder.specs.Placing.{Ending, found, none, rising, leads, unplaced, placing, PassesOver, free, candidate, Stands, Finds, done, place, stuck}
-use Rattle.finder.specs.Rising.{mem-both, rising-elim, rising-intro}
-use Rattle.finder.specs.Leading.{band-rows-intro, candidate-unplaced, unplaced-out, placed-now, others-unplaced}
+use Rattle.order.specs.Table.{Table, band, MIN, leastE, F}
+use Rattle.order.specs.Orders.{mem, NoRepeat}
+use Rattle.order.specs.Counting.{count-le}
+use Rattle.order.specs.Lists.{mem-nil, mem-getD, mem-at}
+use Rattle.order.specs.Sheet.{sheet, RunVerdict, LongestIs, VerdictIs}
+use Rattle.order.specs.Arranged.{run-verdict, own-max}
+use Rattle.order.specs.declared.Verdict.{Verdict}
+use Rattle.finder.specs.Placing.{Ending, found, none, rising, leads, unplaced, placing, PassesOver, free, candidate, Finds, done, place, stuck}
+use Rattle.finder.specs.Rising.{mem-both, at-left, at-right, rising-elim, rising-intro, rising-once, rising-same}
+use Rattle.finder.specs.Leading.{unplaced-out, candidate-unplaced, band-rows-elim, band-rows-intro}
 use Rattle.finder.specs.Standing.{Standing, standing-none, standing-next, unplaced-of}
-use Rattle.finder.specs.Steps.{PassesBy, FirstRows, Ready, BandPlaced}
+use Rattle.finder.specs.Steps.{byBand, firstRows, RunEnds}
+use Rattle.finder.proofs.Sorted.{rising-length}
+use Rattle.finder.proofs.ByBand.{bandsOf, bands-append, bands-elim, bands-intro, bands-once}
+use Rattle.finder.proofs.Waiting.{waiting, waiting-elim, waiting-lead, Tried, Next, rows, front-is, row-waits, not-before, not-rest, still-waiting, to-try, none-sooner, counted-before, all-tried}
 
-neither : (o p : Bool) → (not p && not o) ≡ not (o || p)
-neither true true = refl
-neither true false = refl
-neither false true = refl
-neither false false = refl
+-- the greatest over two masks together
+cond-join : (a b : Bool) (x : ℕ) → cond (a || b) x 0 ≡ max (cond b x 0) (cond a x 0)
+cond-join true true x = omega arith
+cond-join true false x = omega arith
+cond-join false true x = omega arith
+cond-join false false x = omega arith
+
+max-join : (n : ℕ) (p q : Mask) (f : ℕ → ℕ) → maxOver n (λ k. p k || q k) f ≡ max (maxOver n q f) (maxOver n p f)
+unfolding over
+max-join zero p q f = omega arith
+max-join (suc n) p q f = omega (arith, max-join n p q f, cond-join (p n) (q n) (f n))
 
 -- a mask has, below n, the rows that its rising list has
 rising-rows : (n : ℕ) (m : Mask) (k : ℕ) → k < n → mem (rising n m) k ≡ m k
@@ -45,175 +52,188 @@ module _ (n : ℕ) (c t j e key : List ℕ) where
   abbrev τ : Table
   τ = sheet n c t j e key
 
-  -- before a place, with these rows standing: what the flags say, and that the rule leads from nothing to here
-  pub record Before (left firsts placed : List ℕ) (top tried : ℕ) : Type 0 where
+  -- before a place: the rows not placed stand in front, band by band, and the rule leads from nothing to here
+  pub record Before (front placed : List ℕ) (top tried below : ℕ) : Type 0 where
+    pub tops : length front ≡ top
     pub fits : length placed + top ≡ n
     pub standing : Standing τ placed
-    pub left-up : (k : ℕ) → k < n → flagged left k ≡ not (mem placed k)
-    pub firsts-up : (k : ℕ) → k < n → flagged firsts k ≡ unplaced τ placed k
+    pub lined : front ≡ bandsOf τ (waiting τ placed)
+    pub longest : below ≡ maxOver n (mem placed) (at c)
     pub few-tried : tried + limit * top ≤ limit * n
     pub leads-here : (r : Ending) → Finds τ free placed tried r → Finds τ free [] 0 r
 
-  -- at a place, before row m: so many bands were tried, and none passed
-  pub record Tried (placed : List ℕ) (m bands : ℕ) : Type 0 where
-    pub counted : bands ≡ count m (candidate τ free placed)
-    pub none-passed : (k : ℕ) → k < m → Stands τ free placed k → ⊥
-
-  pub tried-none : (placed : List ℕ) → Tried placed 0 0
-  tried-none placed = record { counted = sym (over-none _+_ 0 (candidate τ free placed) (λ k. 1)); none-passed = λ k l. absurd (omega arith) }
-
   -- with no row placed
-  none-placed : (firsts : List ℕ) → FirstRows n key firsts → n ≤ limit → Before (replicate limit 1) firsts [] n 0
+  pub before-first : (front : List ℕ) → length front ≡ n → front ≡ byBand n (at key) (firstRows n (at key)) → Before front [] n 0 0
   unfolding leads mem
-  none-placed firsts h few =
+  before-first front tops e =
       record {
+        tops = tops;
         fits = omega arith;
         standing = standing-none τ;
-        left-up = λ k l. ap (λ (x : ℕ). eqb x 1) (getD-replicate limit k 1 0 (omega arith));
-        firsts-up = λ k l. h k l ∙ sym (and-true (leads τ k));
+        lined = e ∙ ap (bandsOf τ) (rising-same n _ _ (λ k l. sym (and-true (leads τ k))));
+        longest = sym (over-empty max 0 refl (mem []) (at c) n (λ k l. mem-nil k));
         few-tried = omega arith;
         leads-here = λ r f. f;
       }
 
-  module _ {left firsts placed : List ℕ} {top tried : ℕ} (b : Before left firsts placed top tried) where
-    -- every band not placed is one to try
-    candidate-flag : (k : ℕ) → k < n → candidate τ free placed k ≡ flagged firsts k
-    candidate-flag k l = and-true (unplaced τ placed k) ∙ sym (b .firsts-up k l)
+  module _ {front placed : List ℕ} {top tried below : ℕ} (b : Before front placed top tried below) where
+    -- the rows in front are those not placed, each once
+    front-once : NoRepeat front
+    front-once = rw (b .lined) (bands-once τ (waiting τ placed) (waiting-lead τ placed) (rising-once n (unplaced τ placed)))
 
-    pub few-bands : {m bands : ℕ} → Tried placed m bands → bands ≤ m
-    few-bands {m} s = omega (arith, s .counted, count-le m (candidate τ free placed))
+    pub front-range : (k : ℕ) → Is (mem front k) → k < n
+    front-range k h = bands-elim τ (waiting τ placed) k (rw (← b .lined) h) .2
 
-    module _ (x : ℕ) where
-      above-same : SameRows n (except (flagged left) (band τ x)) (except (λ k. not (mem placed k)) (band τ x))
-      above-same k l = ap (λ (y : Bool). y && not (band τ x k)) (b .left-up k l)
-
-      below-same : SameRows n (except (λ k. not (flagged left k)) (band τ x)) (except (mem placed) (band τ x))
-      below-same k l = ap (λ (y : Bool). y && not (band τ x k)) (ap not (b .left-up k l) ∙ not-not (mem placed k))
-        where
-          not-not : (y : Bool) → not (not y) ≡ y
-          not-not true = refl
-          not-not false = refl
-
-      -- what the flags say of a band is what the rule asks
-      passes-over : PassesBy n c t j e key left x → PassesOver τ placed x
-      passes-over = same n (at c) (at c) (at t) (at t) (at j) (at j) (at e) (at e) (at key) (at key) (λ k l. refl) (λ k l. refl) (λ k l. refl) (λ k l. refl) _ _ _ _ _ _ (λ k l. refl) above-same below-same Fits
-
-      passes-by : PassesOver τ placed x → PassesBy n c t j e key left x
-      passes-by = same-back n (at c) (at c) (at t) (at t) (at j) (at j) (at e) (at e) (at key) (at key) (λ k l. refl) (λ k l. refl) (λ k l. refl) (λ k l. refl) _ _ _ _ _ _ (λ k l. refl) above-same below-same Fits
-
-    module _ {m bands : ℕ} (l : m < n) (s : Tried placed m bands) where
-      count-next : (x : Bool) → flagged firsts m ≡ x → bands + cond x 1 0 ≡ count (m + 1) (candidate τ free placed)
-      count-next x q = ap₂ _+_ (s .counted) (ap (λ (y : Bool). cond y 1 0) (sym (candidate-flag m l ∙ q))) ∙ sym (over-next _+_ 0 m (candidate τ free placed) (λ k. 1))
-
-      -- row m leads no band that is not placed
-      pub tried-skip : flagged firsts m ≡ false → Tried placed (m + 1) bands
-      tried-skip q =
-          record {
-            counted = omega (arith, count-next false q);
-            none-passed = below-more (λ (k : ℕ). Stands τ free placed k → ⊥) m (s .none-passed) (λ h. rw (candidate-flag m l ∙ q) at (h .0));
-          }
-
-      module _ (q : flagged firsts m ≡ true) where
-        -- or its band does not pass
-        pub tried-late : (PassesBy n c t j e key left (at key m) → ⊥) → Tried placed (m + 1) (bands + 1)
-        tried-late late =
-            record { counted = count-next true q; none-passed = below-more (λ (k : ℕ). Stands τ free placed k → ⊥) m (s .none-passed) (λ h. late (passes-by (at key m) (h .1))) }
-
-        to-try : Is (candidate τ free placed m)
-        to-try = rw (candidate-flag m l ∙ q) tt
-
-        pub open-band : Is (unplaced τ placed m)
-        open-band = candidate-unplaced τ placed m free to-try
-
-        abbrev own : Mask
-        own = band τ (at key m)
-
-        rows-now : (k : ℕ) → k < n → mem (placing τ placed m) k ≡ (own k || mem placed k)
-        rows-now k i = mem-both (rising n own) placed k ∙ ap (λ (y : Bool). y || mem placed k) (rising-rows n own k i)
-
-        -- the first rows of the bands not placed: row m is one less
-        firsts-now : (k : ℕ) → k < n → Dec (k ≡ m) → m < length firsts → flagged (set firsts m 0) k ≡ unplaced τ (placing τ placed m) k
-        firsts-now k i (yes z) long = rw (z, getD-set-same firsts m 0 0 long) (sym (placed-now τ placed m l))
-        firsts-now k i (no z) long = ap (λ (y : ℕ). eqb y 1) (getD-set-other firsts m k 0 0 z) ∙ (b .firsts-up k i ∙ others-unplaced τ placed m open-band k z)
-
-        -- a place is taken by the band
-        pub fewer : (top′ : ℕ) → length (placing τ placed m) + top′ ≡ n → top′ < top
-        fewer top′ g =
-            let (p, inside, _) = mem-at (rising n own) m (band-rows-intro τ m m l refl) in
-            omega (arith, length-append (rising n own) placed, b .fits)
-
-        -- the band passes: it stands
-        pub before-next : (left′ : List ℕ) (top′ : ℕ) → PassesBy n c t j e key left (at key m) → n ≤ limit → m < length firsts → length (placing τ placed m) + top′ ≡ n
-            → ((k : ℕ) → k < n → flagged left′ k ≡ (flagged left k && not (ownOf key (at key m) k))) → Before left′ (set firsts m 0) (placing τ placed m) top′ (tried + (bands + 1))
-        unfolding limit
-        before-next left′ top′ passes few long fits flags =
-            record {
-              fits = fits;
-              standing = standing-next τ placed m (b .standing) l open-band;
-              left-up = λ k i. flags k i ∙ (ap (λ (y : Bool). y && not (own k)) (b .left-up k i) ∙ (neither (own k) (mem placed k) ∙ ap not (sym (rows-now k i))));
-              firsts-up = λ k i. firsts-now k i (ℕ-discrete k m) long;
-              few-tried = omega (arith, b .few-tried, fewer top′ fits, few-bands s);
-              leads-here = λ r f. b .leads-here r (place m l (to-try, passes-over (at key m) passes) (s .none-passed) (subst (λ (x : ℕ). Finds τ free (placing τ placed m) x r) (omega (arith, s .counted)) f));
-            }
-
-    -- where a place is left, a row does not stand, and so its band is unplaced
-    some-unplaced : 0 < top → (u : ℕ) × (u < n) × Is (unplaced τ placed u)
-    some-unplaced some = go (lowest n (λ k. not (mem placed k))) (lowest-is n (λ k. not (mem placed k)))
+    front-rows : (k : ℕ) → k < n → mem front k ≡ not (mem placed k)
+    front-rows k l = same-test _ _ (λ h. not-T (mem placed k) (out h)) (λ h. into (T-not (mem placed k) h))
       where
-        go : (p : Place) → Lowest n (λ k. not (mem placed k)) p → (u : ℕ) × (u < n) × Is (unplaced τ placed u)
-        go (here k) (is-at l h _) = let (u, i, o, _) = unplaced-of τ placed (b .standing) k l (T-not (mem placed k) h) in (u, i, o)
-        go nowhere (is-none h) =
-            absurd (omega (arith, b .fits, count-list n placed (b .standing .once) (b .standing .range), count-all n (mem placed) (λ k l. or-else (mem placed k) (which (mem placed k)) (h k l))))
+        out : Is (mem front k) → Is (mem placed k) → ⊥
+        out h m =
+            let (u, w, _, q) = bands-elim τ (waiting τ placed) k (rw (← b .lined) h) in
+            let (i, free-band) = waiting-elim τ placed u w in
+            unplaced-out τ placed u free-band (b .standing .whole k u m i (sym q))
+
+        into : (Is (mem placed k) → ⊥) → Is (mem front k)
+        into h = let (u, i, free-band, q) = unplaced-of τ placed (b .standing) k l h in rw (b .lined) (bands-intro τ (waiting τ placed) u k (rising-intro n (unplaced τ placed) u i free-band) l (sym q))
+
+    -- the band that comes next, and its run
+    module _ {s bands : ℕ} (x : Next τ placed s bands) where
+      abbrev own : Mask
+      own = band τ (at key (x .row))
+
+      pub parts : front ≡ bandsOf τ (x .before) ++ (rows τ placed x ++ bandsOf τ (x .rest))
+      parts = b .lined ∙ front-is τ placed x
+
+      pub lengths : top ≡ s + (length (rows τ placed x) + length (bandsOf τ (x .rest)))
+      lengths =
+          omega (arith, b .tops, ap length parts, x .reached, length-append (bandsOf τ (x .before)) (rows τ placed x ++ bandsOf τ (x .rest)), length-append (rows τ placed x) (bandsOf τ (x .rest)))
+
+      pub some-rows : 1 ≤ length (rows τ placed x)
+      some-rows = let (p, inside, _) = mem-at (rows τ placed x) (x .row) (band-rows-intro τ (x .row) (x .row) (row-waits τ placed x .0) refl) in omega arith
+
+      -- which rows stand where
+      tried-there : (p : ℕ) → p < s → at key (at front p) ≡ at key (x .row) → ⊥
+      tried-there p l h =
+          not-before τ placed x (at front p)
+          (subst (λ (y : ℕ). Is (mem (bandsOf τ (x .before)) y)) (sym (ap (λ (y : List ℕ). at y p) parts ∙ at-left (bandsOf τ (x .before)) _ p (omega (arith, x .reached)))) (mem-getD (bandsOf τ (x .before)) p (omega (arith, x .reached)))) h
+
+      behind : (p : ℕ) → s ≤ p → at front p ≡ at (rows τ placed x ++ bandsOf τ (x .rest)) (p - s)
+      behind p h = ap (λ (y : List ℕ). at y p) parts ∙ (at-right (bandsOf τ (x .before)) _ p (omega (arith, x .reached)) ∙ ap (at (rows τ placed x ++ bandsOf τ (x .rest))) (omega (arith, x .reached)))
+
+      own-there : (p : ℕ) → s ≤ p → p < s + length (rows τ placed x) → at key (at front p) ≡ at key (x .row)
+      own-there p h l =
+          band-rows-elim τ (x .row) (at front p)
+          (subst (λ (y : ℕ). Is (mem (rows τ placed x) y)) (sym (behind p h ∙ at-left (rows τ placed x) (bandsOf τ (x .rest)) (p - s) (omega arith))) (mem-getD (rows τ placed x) (p - s) (omega arith))) .1
+
+      rest-there : (p : ℕ) → s + length (rows τ placed x) ≤ p → p < top → at key (at front p) ≡ at key (x .row) → ⊥
+      rest-there p h l =
+          not-rest τ placed x (at front p)
+          (subst (λ (y : ℕ). Is (mem (bandsOf τ (x .rest)) y)) (sym (behind p (omega arith) ∙ at-right (rows τ placed x) (bandsOf τ (x .rest)) (p - s) (omega arith)))
+          (mem-getD (bandsOf τ (x .rest)) (p - s - length (rows τ placed x)) (omega (arith, lengths))))
+
+      -- the run of its key is the run of its rows
+      pub run-is : (ak : List ℕ) → ((p : ℕ) → p < top → at ak p ≡ at key (at front p)) → {e : ℕ} → RunEnds ak s top e → e ≡ s + length (rows τ placed x)
+      run-is ak h {e} r = go (decLt e (s + length (rows τ placed x))) (decLt (s + length (rows τ placed x)) e)
+        where
+          first : at ak s ≡ at key (x .row)
+          first = h s (omega (arith, r .after, r .within)) ∙ own-there s (omega arith) (omega (arith, some-rows))
+
+          go : Dec (e < s + length (rows τ placed x)) → Dec (s + length (rows τ placed x) < e) → e ≡ s + length (rows τ placed x)
+          go (yes l) w = let below : e < top = omega (arith, lengths) in absurd (r .other below (h e below ∙ (own-there e (omega (arith, r .after)) l ∙ sym first)))
+          go (no l) (yes m) =
+              let p : ℕ = s + length (rows τ placed x) in
+              let below : p < top = omega (arith, r .within) in
+              absurd (rest-there p (omega arith) below (sym (h p below) ∙ (r .one p (omega arith) m ∙ first)))
+          go (no l) (no m) = omega arith
+
+      places : (e : ℕ) → e ≡ s + length (rows τ placed x) → (p : ℕ) → p < length front → run s e p ≡ own (at front p)
+      places e q p l = go (decLt p s) (decLt p e)
+        where
+          go : Dec (p < s) → Dec (p < e) → run s e p ≡ own (at front p)
+          go (yes i) w = rw (lt-leb s p i, ne-eqb _ _ (tried-there p i))
+          go (no i) (yes k) = rw (le-leb s p (omega arith), lt-ltb p e k, eq-eqb _ _ (own-there p (omega arith) (omega arith)))
+          go (no i) (no k) = rw (le-leb s p (omega arith), le-ltb p e (omega arith), ne-eqb _ _ (rest-there p (omega arith) (omega (arith, b .tops))))
+
+      whole : (k : ℕ) → k < n → Is (own k) → Is (mem front k)
+      whole k l o = let (i, u) = row-waits τ placed x in rw (b .lined) (bands-intro τ (waiting τ placed) (x .row) k (rising-intro n (unplaced τ placed) (x .row) i u) l (eqb→eq (at key k) (at key (x .row)) o))
+
+      not-own : (k : ℕ) → k < n → Is (mem placed k) → Is (own k) → ⊥
+      not-own k l m o = T-not (mem placed k) (rw (front-rows k l) at (whole k l o)) m
+
+      -- the columns stand along the rows
+      module _ (ac at′ aj ae : List ℕ) (hc : (p : ℕ) → p < top → at ac p ≡ at c (at front p)) (ht : (p : ℕ) → p < top → at at′ p ≡ at t (at front p))
+          (hj : (p : ℕ) → p < top → at aj p ≡ at j (at front p)) (he : (p : ℕ) → p < top → at ae p ≡ at e (at front p)) (end : ℕ) (q : end ≡ s + length (rows τ placed x)) where
+        module _ (v : Verdict) (h : RunVerdict top ac at′ aj ae s end below v) where
+          -- the verdict on the run is the one that the rule asks for
+          pub verdict-is : VerdictIs (F τ own (except (λ k. not (mem placed k)) own) (except (mem placed) own)) (MIN τ own) (leastE τ own) v
+          verdict-is =
+              run-verdict τ front front-once front-range own s end (places end q) whole
+              ac at′ aj ae (λ p l. hc p (omega (arith, b .tops))) (λ p l. ht p (omega (arith, b .tops))) (λ p l. hj p (omega (arith, b .tops))) (λ p l. he p (omega (arith, b .tops)))
+              (except (λ k. not (mem placed k)) own) (except (mem placed) own) below
+              (λ k l. ap (λ (y : Bool). y && not (own k)) (sym (front-rows k l)))
+              (b .longest ∙ over-same max 0 n (mem placed) (except (mem placed) own) (at c) (at c) (λ k l. same-test _ _ (λ m. and-intro (mem placed k) (not (own k)) m (not-T (own k) (not-own k l m))) (and-left (mem placed k) (not (own k)))) (λ k l. refl))
+              v (subst (λ (y : ℕ). RunVerdict y ac at′ aj ae s end below v) (sym (b .tops)) h)
+
+        -- and the longest C below, with that of the run, is that of the rows then placed
+        pub longest-now : {r : ℕ} → LongestIs ac s end below r → r ≡ maxOver n (mem (placing τ placed (x .row))) (at c)
+        longest-now h = h .is ∙ (ap₂ max (b .longest) run-longest ∙ (sym (max-join n own (mem placed) (at c)) ∙ over-same max 0 n _ _ (at c) (at c) (λ k l. sym (rows-now k l)) (λ k l. refl)))
           where
-            or-else : (x : Bool) → Is x ⊎ Is (not x) → (Is (not x) → ⊥) → Is x
-            or-else x (inl y) z = y
-            or-else x (inr y) z = absurd (z y)
+            run-longest : maxOver end (run s end) (at ac) ≡ maxOver n own (at c)
+            run-longest =
+                sym (run-beyond max 0 refl s end (at ac) (λ u v w. omega arith) (length front) (omega (arith, lengths, b .tops)))
+                ∙ own-max τ front front-once front-range own s end (places end q) whole ac (at c) (λ p l. hc p (omega (arith, b .tops)))
+
+            rows-now : (k : ℕ) → k < n → mem (placing τ placed (x .row)) k ≡ (own k || mem placed k)
+            rows-now k l = mem-both (rising n own) placed k ∙ ap (λ (y : Bool). y || mem placed k) (rising-rows n own k l)
+
+      -- it passes: it is placed, and the rest waits
+      pub before-next : (top′ below′ : ℕ) → n ≤ limit → top′ ≡ top - length (rows τ placed x) → below′ ≡ maxOver n (mem (placing τ placed (x .row))) (at c) → PassesOver τ placed (at key (x .row))
+          → Before (bandsOf τ (x .before) ++ bandsOf τ (x .rest)) (placing τ placed (x .row)) top′ (tried + (bands + 1)) below′
+      unfolding limit
+      before-next top′ below′ few q longest passes =
+          let (l, free-band) = row-waits τ placed x in
+          record {
+            tops = omega (arith, length-append (bandsOf τ (x .before)) (bandsOf τ (x .rest)), x .reached, lengths);
+            fits = omega (arith, length-append (rows τ placed x) placed, b .fits, lengths);
+            standing = standing-next τ placed (x .row) (b .standing) l free-band;
+            lined = sym (bands-append τ (x .before) (x .rest)) ∙ ap (bandsOf τ) (sym (still-waiting τ placed x));
+            longest = longest;
+            few-tried = omega (arith, b .few-tried, some-rows, lengths, few-bands);
+            leads-here =
+                λ r f. b .leads-here r (place (x .row) l (to-try τ placed x (x .row) (rising-intro n (unplaced τ placed) (x .row) l free-band), passes) (none-sooner τ placed x)
+                (subst (λ (y : ℕ). Finds τ free (placing τ placed (x .row)) y r) (omega (arith, counted-before τ placed x)) f));
+          }
+        where
+          few-bands : bands ≤ x .row
+          few-bands = omega (arith, counted-before τ placed x, count-le (x .row) (candidate τ free placed))
 
     -- every band was tried, and none passed
-    pub stuck-here : {bands : ℕ} → 0 < top → Tried placed n bands → Finds τ free [] 0 (none bands (tried + bands))
-    stuck-here {bands} some s =
-        let (u, l, o) = some-unplaced some in
-        b .leads-here _ (subst₂ (λ (x y : ℕ). Finds τ free placed tried (none x (tried + y))) (all-tried ∙ sym (s .counted)) (sym (s .counted)) (stuck u l o (s .none-passed)))
+    pub stuck-here : {s bands : ℕ} → 0 < top → top ≤ s → Tried τ placed s bands → Finds τ free [] 0 (none bands (tried + bands))
+    stuck-here {s} {bands} some h t =
+        let (u, l, free-band) = some-band in
+        b .leads-here _ (subst₂ (λ (y z : ℕ). Finds τ free placed tried (none y (tried + z))) bands-are candidates-are (stuck u l free-band (λ k i s. t .none-passed k (rw (← every) (rising-intro n (unplaced τ placed) k i (candidate-unplaced τ placed k free (s .0)))) (s .1))))
       where
-        all-tried : count n (unplaced τ placed) ≡ count n (candidate τ free placed)
-        all-tried = over-same _+_ 0 n (unplaced τ placed) (candidate τ free placed) (λ k. 1) (λ k. 1) (λ k l. sym (and-true (unplaced τ placed k))) (λ k l. refl)
+        every : waiting τ placed ≡ t .before
+        every = all-tried τ placed (omega (arith, b .tops, ap length (b .lined))) t
+
+        bands-are : count n (unplaced τ placed) ≡ bands
+        bands-are = sym (rising-length n (unplaced τ placed)) ∙ (ap length every ∙ sym (t .counted))
+
+        candidates-are : count n (candidate τ free placed) ≡ bands
+        candidates-are = over-same _+_ 0 n _ _ (λ k. 1) (λ k. 1) (λ k l. and-true (unplaced τ placed k)) (λ k l. refl) ∙ bands-are
+
+        some-band : (u : ℕ) × (u < n) × Is (unplaced τ placed u)
+        some-band =
+            let (u, w, _, _) = bands-elim τ (waiting τ placed) (at front 0) (rw (← b .lined) (mem-getD front 0 (omega (arith, b .tops)))) in
+            let (l, free-band) = waiting-elim τ placed u w in
+            (u, l, free-band)
 
     -- every row stands
     pub done-here : top ≡ 0 → Finds τ free [] 0 (found placed tried)
-    done-here z = b .leads-here _ (done (λ k l h. unplaced-out τ placed k h (count-full n (mem placed) (count-list n placed (b .standing .once) (b .standing .range) ∙ omega (arith, b .fits)) k l)))
+    done-here z = b .leads-here _ (done (λ k l u. empty (at-nowhere k (rw (front-rows k l) (not-T (mem placed k) (unplaced-out τ placed k u))))))
+      where
+        at-nowhere : (k : ℕ) → Is (mem front k) → 0 < length front
+        at-nowhere k m = let (p, inside, _) = mem-at front k m in omega arith
 
-  -- the same with the rows placed as code holds them, in `made` from place `top` on
-  pub before-first : (made firsts : List ℕ) → FirstRows n key firsts → n ≤ limit → Before (replicate limit 1) firsts (slice n n made) n 0
-  before-first made firsts h few = subst (λ (x : List ℕ). Before (replicate limit 1) firsts x n 0) (sym (slice-empty n made)) (none-placed firsts h few)
-
-  module _ {left firsts : List ℕ} (made : List ℕ) {top tried : ℕ} (b : Before left firsts (slice top n made) top tried) where
-    module _ {m bands : ℕ} (l : m < n) (s : Tried (slice top n made) m bands) (q : flagged firsts m ≡ true) where
-      pub ready : Held n c t j e key → n ≤ length left → n ≤ length made → Ready n key left made (at key m) top
-      ready h long-left long-made =
-          record {
-            few = h .lengths .few;
-            long-key = h .keys .long-key;
-            long-left = long-left;
-            long-made = long-made;
-            fits = omega (arith, b .fits);
-            range = b .standing .range;
-            once = b .standing .once;
-            new = λ k i z p. unplaced-out τ (slice top n made) m (open-band b l s q) (b .standing .whole k m p l (sym z));
-          }
-
-      module _ {left′ made′ : List ℕ} {top′ : ℕ} (long : n ≤ length made′) (p : BandPlaced n key (at key m) left made left′ made′ top top′) where
-        stands-now : length (placing τ (slice top n made) m) + top′ ≡ n
-        stands-now = omega (arith, ap length (p .stands), length-slice top′ n made′ long, p .fits)
-
-        pub fewer-left : top′ < top
-        fewer-left = fewer b l s q top′ stands-now
-
-        pub before-placed : PassesBy n c t j e key left (at key m) → n ≤ limit → m < length firsts → Before left′ (set firsts m 0) (slice top′ n made′) top′ (tried + (bands + 1))
-        before-placed passes few inside =
-            subst (λ (x : List ℕ). Before left′ (set firsts m 0) x top′ (tried + (bands + 1))) (sym (p .stands)) (before-next b l s q left′ top′ passes few inside stands-now (p .flags))
-
-    -- with no place left, the order found is the first n places
-    pub laid-order : top ≡ 0 → (d : List ℕ) → take n made ++ drop n d ≡ slice top n made ++ drop (length (slice top n made)) d
-    laid-order z d =
-        let all : n ≡ length (slice top n made) = omega (arith, b .fits) in
-        ap₂ (λ (x : List ℕ) (y : ℕ). x ++ drop y d) (ap (λ (x : ℕ). drop x (take n made)) (sym z)) all
+        empty : 0 < length front → ⊥
+        empty h = omega (arith, b .tops)

@@ -1,10 +1,10 @@
 -- Lists of rows one behind the other, and the rows of a mask, rising: which rows they have, and what holds of each entry and a later one.
 -- Assumes nothing.
 use Prim.Native.Nat.{ℕ, zero, suc, _-_, _≤_, _<_}
-use native.Mathlib.Nat.{eq-or-lt-of-le, le-of-suc-le-suc}
+use native.Mathlib.Nat.{le-refl, eq-or-lt-of-le, le-of-suc-le-suc}
 use native.Mathlib.Decide.{decLt}
 use native.Mathlib.Omega.{arith}
-use mathlib.Core.Path.{_≡_, refl, sym, ap, _∙_, subst, subst₂}
+use mathlib.Core.Path.{_≡_, refl, sym, ap, ap₂, _∙_, subst, subst₂}
 use mathlib.Core.Logic.{_⊎_, inl, inr}
 use mathlib.Core.Bool.{Bool, true, false, cond, _||_, or-assoc}
 use mathlib.Core.List.{List, [], _∷_, _++_}
@@ -111,3 +111,9 @@ rising-rises (suc n) m =
 
 pub rising-once : (n : ℕ) (m : Mask) → NoRepeat (rising n m)
 rising-once n m = no-repeat (rising n m) (λ a b l h e. omega (arith, rising-rises n m a b l h))
+
+-- masks with the same rows below n have one list
+pub rising-same : (n : ℕ) (m m′ : Mask) → ((k : ℕ) → k < n → m k ≡ m′ k) → rising n m ≡ rising n m′
+unfolding rising
+rising-same zero m m′ h = refl
+rising-same (suc n) m m′ h = ap₂ (λ (l : List ℕ) (b : Bool). l ++ cond b (n ∷ []) []) (rising-same n m m′ (λ k l. h k (omega arith))) (h n (le-refl (suc n)))

@@ -1,53 +1,81 @@
--- What the functions of this crate answer about a table held in columns and the rows placed so far: the flags of `left` are up at the rows
--- not placed, those of `firsts` at the first rows of the bands not placed, and the rows placed stand in `made` from place `top` on.
--- Definitions only.
+-- What the functions of this crate answer. The rows of a table stand in one list, `made`: before place `top` those not placed, band by band,
+-- and from there on those placed. The columns stand along it. Definitions only.
 -- Assumes nothing.
-use Prim.Native.Nat.{ℕ, _≤_, _<_}
+use Prim.Native.Nat.{ℕ, _+_, _-_, _≤_, _<_}
 use mathlib.Core.Path.{_≡_}
-use mathlib.Core.Bool.{Bool, true, false, not, _&&_}
-use mathlib.Core.List.{List, _++_}
+use mathlib.Core.Bool.{not, cond}
+use mathlib.Core.List.{List, [], _∷_, _++_}
 use lib.ListN.{length}
-use lib.Seq.{slice}
-use lib.Dec.{T as Is}
-use Rattle.sums.specs.Masks.{Mask, except}
-use Rattle.sums.specs.Columns.{at, flagged}
+use lib.Dec.{eqb, ltb}
+use Rattle.sums.specs.Masks.{Mask}
+use Rattle.sums.specs.Columns.{at}
 use Rattle.licence.specs.Limit.{limit}
-use Rattle.order.specs.Table.{Passes}
-use Rattle.order.specs.Orders.{mem, NoRepeat}
-use Rattle.order.specs.Sheet.{sheet, ownOf, belowOf}
 use Rattle.order.specs.Marks.{shownBefore}
 use Rattle.finder.specs.Placing.{rising}
 
--- whether it holds
-abbrev pub Whether : Type 0 → Bool → Type 0
-Whether P true = P
-Whether P false = P → ⊥
+-- the rows of the band with key b
+abbrev pub ownOf : (key : List ℕ) (b : ℕ) → Mask
+ownOf key b k = eqb (at key k) b
 
--- the rows not placed, the band's own left out
-abbrev pub aboveOf : (key left : List ℕ) (b : ℕ) → Mask
-aboveOf key left b = except (flagged left) (ownOf key b)
-
--- the band with key b passes with the other rows not placed above it, and those placed below
-abbrev pub PassesBy : (n : ℕ) (c t j e key left : List ℕ) (b : ℕ) → Type 0
-PassesBy n c t j e key left b = Passes (sheet n c t j e key) (ownOf key b) (aboveOf key left b) (belowOf key left b)
-
--- the flags are up at the first row of each band
-abbrev pub FirstRows : (n : ℕ) (key flags : List ℕ) → Type 0
-FirstRows n key flags = (k : ℕ) → k < n → flagged flags k ≡ not (shownBefore (at key) k (at key k))
-
--- rows stand from place `top` on, none twice and none of the band
-pub record Ready (n : ℕ) (key left made : List ℕ) (b top : ℕ) : Type 0 where
+-- row k is the first of its band, and there is room for the rows of the band from place `end` on
+pub record Puts (n : ℕ) (key : List ℕ) (k : ℕ) (made : List ℕ) (end : ℕ) : Type 0 where
   pub few : n ≤ limit
   pub long-key : n ≤ length key
-  pub long-left : n ≤ length left
+  pub inside : k < n
+  pub first : (i : ℕ) → i < k → at key i ≡ at key k → ⊥
+  pub room : end + length (rising n (ownOf key (at key k))) ≤ n
   pub long-made : n ≤ length made
-  pub fits : top ≤ n
-  pub range : (k : ℕ) → Is (mem (slice top n made) k) → k < n
-  pub once : NoRepeat (slice top n made)
-  pub new : (k : ℕ) → k < n → at key k ≡ b → Is (mem (slice top n made) k) → ⊥
 
--- the rows of the band stand before them, rising, and their flags are down
-pub record BandPlaced (n : ℕ) (key : List ℕ) (b : ℕ) (left made left′ made′ : List ℕ) (top top′ : ℕ) : Type 0 where
-  pub fits : top′ ≤ n
-  pub stands : slice top′ n made′ ≡ rising n (ownOf key b) ++ slice top n made
-  pub flags : (k : ℕ) → k < n → flagged left′ k ≡ (flagged left k && not (ownOf key b k))
+-- the rows of the bands of some rows, band by band, each band's rising
+unfoldable pub byBand : (n : ℕ) (key : ℕ → ℕ) → List ℕ → List ℕ
+byBand n key [] = []
+byBand n key (k ∷ l) = rising n (λ i. eqb (key i) (key k)) ++ byBand n key l
+
+-- the first row of each band
+abbrev pub firstRows : (n : ℕ) (key : ℕ → ℕ) → List ℕ
+firstRows n key = rising n (λ k. not (shownBefore key k (key k)))
+
+-- a column along the first n places of a list of rows
+abbrev pub Along : (n : ℕ) (column made along : List ℕ) → Type 0
+Along n column made along = (p : ℕ) → p < n → at along p ≡ at column (at made p)
+
+-- e is where the run of one key from place s on ends
+pub record RunEnds (key : List ℕ) (s top e : ℕ) : Type 0 where
+  pub after : s < e
+  pub within : e ≤ top
+  pub one : (p : ℕ) → s ≤ p → p < e → at key p ≡ at key s
+  pub other : e < top → at key e ≡ at key s → ⊥
+
+-- the places s to e - 1 go behind those up to top, which close up: where what then stands at place p stood before
+unfoldable pub turned : (s e top p : ℕ) → ℕ
+turned s e top p = cond (ltb p s) p (cond (ltb (p + (e - s)) top) (p + (e - s)) (cond (ltb p top) (s + (p + (e - s) - top)) p))
+
+pub record Turned (s e top : ℕ) (list list′ : List ℕ) : Type 0 where
+  pub long : length list′ ≡ length list
+  pub moved : (p : ℕ) → at list′ p ≡ at list (turned s e top p)
+
+-- columns of n rows, each along the first n places of `made`
+pub record Aligned (n : ℕ) (c t j e key made c′ t′ j′ e′ key′ : List ℕ) : Type 0 where
+  pub along-c : Along n c made c′
+  pub along-t : Along n t made t′
+  pub along-j : Along n j made j′
+  pub along-e : Along n e made e′
+  pub along-key : Along n key made key′
+
+-- six lists with room for n places
+pub record SixLong (n : ℕ) (made c t j e key : List ℕ) : Type 0 where
+  pub long-made : n ≤ length made
+  pub long-c : n ≤ length c
+  pub long-t : n ≤ length t
+  pub long-j : n ≤ length j
+  pub long-e : n ≤ length e
+  pub long-key : n ≤ length key
+
+-- the run goes behind in all six
+pub record SixTurned (s e top : ℕ) (made c t j a key made′ c′ t′ j′ a′ key′ : List ℕ) : Type 0 where
+  pub turned-made : Turned s e top made made′
+  pub turned-c : Turned s e top c c′
+  pub turned-t : Turned s e top t t′
+  pub turned-j : Turned s e top j j′
+  pub turned-a : Turned s e top a a′
+  pub turned-key : Turned s e top key key′

@@ -21,7 +21,7 @@ count-part : (n : ℕ) (p q : Mask) → ((i : ℕ) → Is (p i) → Is (q i)) �
 count-part n p q h = sum-mono n p q (λ i. 1) (λ i. 1) (λ i _. h i) (λ i _ _. le-refl 1)
 
 -- those of a part before k, and k itself
-count-before : (n k : ℕ) (p q : Mask) → ((i : ℕ) → Is (p i) → Is (q i)) → k < n → Is (q k) → suc (count k p) ≤ count n q
+pub count-before : (n k : ℕ) (p q : Mask) → ((i : ℕ) → Is (p i) → Is (q i)) → k < n → Is (q k) → suc (count k p) ≤ count n q
 unfolding over
 count-before zero k p q h l t = absurd (omega arith)
 count-before (suc n) k p q h l t = go (eq-or-lt-of-le (le-of-suc-le-suc l)) (count-before n k p q h)

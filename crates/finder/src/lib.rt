@@ -1,16 +1,15 @@
 // Finds a priority order: fills the lowest place first.
 ghost use mathlib.Core.Path.{_≡_};
-ghost use mathlib.Core.Bool.{not, cond, _&&_};
 ghost use mathlib.Core.List.{_++_};
-ghost use Prim.Native.Nat.{_+_, _≤_};
+ghost use Prim.Native.Nat.{ℕ, _+_, _≤_, _<_};
 ghost use lib.ListN.{length, take, drop};
-ghost use lib.Dec.{eqb};
-ghost use Rattle.sums.specs.Columns.{Columns, at};
+ghost use Rattle.sums.specs.Columns.{at};
 ghost use Rattle.licence.specs.Limit.{limit};
-ghost use Rattle.order.specs.Sheet.{sheet, Lengths, Band, Gathered};
+ghost use Rattle.order.specs.Sheet.{sheet};
 ghost use Rattle.intake.specs.Held.{Keyed, Held};
+ghost use Rattle.finder.specs.Placing.{rising};
 ghost use Rattle.finder.specs.Searched.{findingAnswer, Answered, Searched};
-ghost use Rattle.finder.specs.Steps.{Whether, aboveOf, PassesBy, FirstRows, Ready, BandPlaced};
+ghost use Rattle.finder.specs.Steps.{ownOf, Puts, byBand, firstRows, Along, RunEnds, Turned, Aligned, SixLong, SixTurned};
 
 // An order, or why there is none.
 pub enum Finding {
@@ -25,115 +24,93 @@ fn index(x: u32) -> usize
     x as usize
 }
 
-// One place more where the row is above.
-fn place_after(g: usize, own: bool, left: bool) -> usize
-    requires { ⌜ g + 1 ≤ 18446744073709551615 ⌝ }
-    ensures { λ r. ⌜ r ≡ g + cond (left && not own) 1 0 ⌝ }
+// Writes the rows of the band of row k, its first, from place `end` on, and answers where they end.
+fn put_band(n: usize, key: &[u32], k: usize, made: &mut [u32], end: usize) -> usize
+    requires { ⌜ Puts n (now key) k (now made) end ⌝ }
+    ensures { λ r. ⌜ (take r (now (made .exit)) ≡ take end (now (made .entry)) ++ rising n (ownOf (now (key .entry)) (at (now (key .entry)) k))) × (r ≤ n) ⌝ }
 {
-    if own {
-        return g;
+    let mut next = end;
+    let mut i = k;
+    while i < n {
+        if key[i] == key[k] {
+            made[next] = i as u32;
+            next += 1;
+        }
+        i += 1;
     }
-    if left { g + 1 } else { g }
+    next
 }
 
-// Writes C, T and J of the rows above the band one behind the other, and answers how many there are.
-fn gather(
-    n: usize,
-    c: &[u32],
-    t: &[u32],
-    j: &[u32],
-    key: &[u32],
-    left: &[u32],
-    band: u32,
-    gc: &mut [u32],
-    gt: &mut [u32],
-    gj: &mut [u32],
-) -> usize
-    requires { ⌜ Columns n (now c) (now t) (now j) × Band n (now key) (now left) band × (n ≤ length (now gc)) × (n ≤ length (now gt)) × (n ≤ length (now gj)) ⌝ }
-    ensures { λ r. ⌜ Gathered n (at (now (c .entry))) (at (now (t .entry))) (at (now (j .entry))) (aboveOf (now (key .entry)) (now (left .entry)) band) r (now (gc .exit)) (now (gt .exit)) (now (gj .exit)) ⌝ }
-{
-    let mut g: usize = 0;
-    let mut k: usize = 0;
-    while k < n {
-        gc[g] = c[k];
-        gt[g] = t[k];
-        gj[g] = j[k];
-        g = place_after(g, key[k] == band, left[k] == 1);
-        k += 1;
-    }
-    g
-}
-
-// Does the band pass at the lowest place that is left?
-fn passes_next(
-    n: usize,
-    c: &[u32],
-    t: &[u32],
-    j: &[u32],
-    e: &[u32],
-    key: &[u32],
-    left: &[u32],
-    band: u32,
-) -> bool
-    requires { ⌜ Columns n (now c) (now t) (now j) × Lengths n (now c) (now e) × Band n (now key) (now left) band ⌝ }
-    ensures { λ r. ⌜ Whether (PassesBy n (now (c .entry)) (now (t .entry)) (now (j .entry)) (now (e .entry)) (now (key .entry)) (now (left .entry)) band) r ⌝ }
-{
-    let mut gc = [0u32; licence::LIMIT];
-    let mut gt = [0u32; licence::LIMIT];
-    let mut gj = [0u32; licence::LIMIT];
-    let above = gather(n, c, t, j, key, left, band, &mut gc, &mut gt, &mut gj);
-    let verdict = order::judge_band(n, c, e, key, left, band, above, &gc, &gt, &gj);
-    match verdict {
-        order::Verdict::Figure(_) => true,
-        order::Verdict::Late => false,
-    }
-}
-
-// A flag that is up where the other is down.
-fn opposite(flag: u32) -> u32
-    ensures { λ r. ⌜ eqb r 1 ≡ not (eqb flag 1) ⌝ }
-{
-    if flag == 1 { 0 } else { 1 }
-}
-
-// Raises the flag of the first row of each band, and lowers the others.
-fn mark_first_rows(n: usize, key: &[u32], firsts: &mut [u32])
-    requires { ⌜ (n ≤ limit) × Keyed n (now key) × (n ≤ length (now firsts)) ⌝ }
-    ensures { λ r. ⌜ FirstRows n (now (key .entry)) (now (firsts .exit)) ⌝ }
+// Writes the rows band by band: the bands in rising order of their first row, the rows of each rising.
+fn line_up(n: usize, key: &[u32], made: &mut [u32])
+    requires { ⌜ (n ≤ limit) × Keyed n (now key) × (n ≤ length (now made)) ⌝ }
+    ensures { λ r. ⌜ take n (now (made .exit)) ≡ byBand n (at (now (key .entry))) (firstRows n (at (now (key .entry)))) ⌝ }
 {
     let mut used = [0u32; licence::KEYS];
+    let mut end: usize = 0;
     let mut k: usize = 0;
     while k < n {
-        let b = index(key[k]);
-        firsts[k] = opposite(used[b]);
-        used[b] = 1;
+        let band = index(key[k]);
+        let seen = used[band];
+        used[band] = 1;
+        if seen != 1 {
+            end = put_band(n, key, k, made, end);
+        }
         k += 1;
     }
 }
 
-// Puts the rows of the band before those that stand from place `top` on, and lowers their flags; answers the place of the first.
-fn place_band(
-    n: usize,
-    key: &[u32],
-    band: u32,
-    left: &mut [u32],
-    made: &mut [u32],
-    top: usize,
-) -> usize
-    requires { ⌜ Ready n (now key) (now left) (now made) band top ⌝ }
-    ensures { λ r. ⌜ BandPlaced n (now (key .entry)) band (now (left .entry)) (now (made .entry)) (now (left .exit)) (now (made .exit)) top r ⌝ }
+// Writes a column along the rows.
+fn put_along(n: usize, column: &[u32], made: &[u32], along: &mut [u32])
+    requires { ⌜ (n ≤ length (now column)) × (n ≤ length (now made)) × (n ≤ length (now along)) × ((p : ℕ) → p < n → at (now made) p < n) ⌝ }
+    ensures { λ r. ⌜ Along n (now (column .entry)) (now (made .entry)) (now (along .exit)) ⌝ }
 {
-    let mut first = top;
-    let mut k = n;
-    while 0 < k {
-        k -= 1;
-        if key[k] == band {
-            first -= 1;
-            made[first] = k as u32;
-            left[k] = 0;
-        }
+    let mut p: usize = 0;
+    while p < n {
+        along[p] = column[index(made[p])];
+        p += 1;
     }
-    first
+}
+
+// Where the run of one key that starts at place s ends.
+fn run_end(key: &[u32], s: usize, top: usize) -> usize
+    requires { ⌜ (s < top) × (top ≤ length (now key)) ⌝ }
+    ensures { λ r. ⌜ RunEnds (now (key .entry)) s top r ⌝ }
+{
+    let mut e = s + 1;
+    while e < top {
+        if key[e] != key[s] {
+            return e;
+        }
+        e += 1;
+    }
+    e
+}
+
+// Moves what stands at place s to place top - 1; those between close up.
+fn move_back(list: &mut [u32], s: usize, top: usize)
+    requires { ⌜ (s < top) × (top ≤ length (now list)) ⌝ }
+    ensures { λ r. ⌜ Turned s (s + 1) top (now (list .entry)) (now (list .exit)) ⌝ }
+{
+    let first = list[s];
+    let mut k = s + 1;
+    while k < top {
+        list[k - 1] = list[k];
+        k += 1;
+    }
+    list[top - 1] = first;
+}
+
+// Puts the places s to e - 1 behind those up to top.
+fn turn(list: &mut [u32], s: usize, e: usize, top: usize)
+    requires { ⌜ (s ≤ e) × (e ≤ top) × (top ≤ length (now list)) ⌝ }
+    ensures { λ r. ⌜ Turned s e top (now (list .entry)) (now (list .exit)) ⌝ }
+{
+    let mut i = s;
+    while i < e {
+        move_back(list, s, top);
+        i += 1;
+    }
 }
 
 // Writes the first n places of the order made to the lent list.
@@ -148,7 +125,56 @@ fn lay(n: usize, made: &[u32], order: &mut [u32])
     }
 }
 
-// Finds an order over a table in columns.
+// Lines the rows up band by band, and the columns along them.
+fn arrange(
+    n: usize,
+    c: &[u32],
+    t: &[u32],
+    j: &[u32],
+    e: &[u32],
+    key: &[u32],
+    made: &mut [u32],
+    ca: &mut [u32],
+    ta: &mut [u32],
+    ja: &mut [u32],
+    ea: &mut [u32],
+    ka: &mut [u32],
+)
+    requires { ⌜ Held n (now c) (now t) (now j) (now e) (now key) × SixLong n (now made) (now ca) (now ta) (now ja) (now ea) (now ka) ⌝ }
+    ensures { λ r. ⌜ (take n (now (made .exit)) ≡ byBand n (at (now (key .entry))) (firstRows n (at (now (key .entry))))) × Aligned n (now (c .entry)) (now (t .entry)) (now (j .entry)) (now (e .entry)) (now (key .entry)) (now (made .exit)) (now (ca .exit)) (now (ta .exit)) (now (ja .exit)) (now (ea .exit)) (now (ka .exit)) ⌝ }
+{
+    line_up(n, key, made);
+    put_along(n, c, made, ca);
+    put_along(n, t, made, ta);
+    put_along(n, j, made, ja);
+    put_along(n, e, made, ea);
+    put_along(n, key, made, ka);
+}
+
+// Puts the run behind in the rows and in every column.
+fn turn_all(
+    made: &mut [u32],
+    c: &mut [u32],
+    t: &mut [u32],
+    j: &mut [u32],
+    a: &mut [u32],
+    key: &mut [u32],
+    s: usize,
+    e: usize,
+    top: usize,
+)
+    requires { ⌜ (s ≤ e) × (e ≤ top) × SixLong top (now made) (now c) (now t) (now j) (now a) (now key) ⌝ }
+    ensures { λ r. ⌜ SixTurned s e top (now (made .entry)) (now (c .entry)) (now (t .entry)) (now (j .entry)) (now (a .entry)) (now (key .entry)) (now (made .exit)) (now (c .exit)) (now (t .exit)) (now (j .exit)) (now (a .exit)) (now (key .exit)) ⌝ }
+{
+    turn(made, s, e, top);
+    turn(c, s, e, top);
+    turn(t, s, e, top);
+    turn(j, s, e, top);
+    turn(a, s, e, top);
+    turn(key, s, e, top);
+}
+
+// Finds an order over a table in columns: the rows not placed stand before place `top` of `made`, those placed from there on.
 fn find_order(
     n: usize,
     c: &[u32],
@@ -161,27 +187,54 @@ fn find_order(
     requires { ⌜ Held n (now c) (now t) (now j) (now e) (now key) × (n ≤ length (now order)) ⌝ }
     ensures { λ r. ⌜ Answered (sheet n (now (c .entry)) (now (t .entry)) (now (j .entry)) (now (e .entry)) (now (key .entry))) (now (order .entry)) (now (order .exit)) (findingAnswer r) ⌝ }
 {
-    let mut left = [1u32; licence::LIMIT];
-    let mut firsts = [0u32; licence::LIMIT];
     let mut made = [0u32; licence::LIMIT];
-    mark_first_rows(n, key, &mut firsts);
+    let mut ca = [0u32; licence::LIMIT];
+    let mut ta = [0u32; licence::LIMIT];
+    let mut ja = [0u32; licence::LIMIT];
+    let mut ea = [0u32; licence::LIMIT];
+    let mut ka = [0u32; licence::LIMIT];
+    arrange(
+        n,
+        c,
+        t,
+        j,
+        e,
+        key,
+        &mut made,
+        &mut ca,
+        &mut ta,
+        &mut ja,
+        &mut ea,
+        &mut ka,
+    );
+    let mut below: u32 = 0;
     let mut top = n;
     let mut tried: u32 = 0;
     'places: while 0 < top {
         let mut bands: u32 = 0;
-        let mut m: usize = 0;
-        while m < n {
-            if firsts[m] == 1 {
-                bands += 1;
-                let band = key[m];
-                if passes_next(n, c, t, j, e, key, &left, band) {
-                    tried += bands;
-                    firsts[m] = 0;
-                    top = place_band(n, key, band, &mut left, &mut made, top);
-                    continue 'places;
-                }
+        let mut s: usize = 0;
+        while s < top {
+            let end = run_end(&ka, s, top);
+            bands += 1;
+            let verdict = order::judge_run(top, &ca, &ta, &ja, &ea, s, end, below);
+            if let order::Verdict::Figure(_) = verdict {
+                tried += bands;
+                below = order::longest_of(&ca, s, end, below);
+                turn_all(
+                    &mut made,
+                    &mut ca,
+                    &mut ta,
+                    &mut ja,
+                    &mut ea,
+                    &mut ka,
+                    s,
+                    end,
+                    top,
+                );
+                top -= end - s;
+                continue 'places;
             }
-            m += 1;
+            s = end;
         }
         return Finding::Refused(intake::Refusal::NoOrder(bands, tried + bands));
     }

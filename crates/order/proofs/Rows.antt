@@ -1,77 +1,52 @@
--- The five numbers of a band, row by row. Assumes nothing.
+-- The numbers of a run, place by place, and their bounds. Assumes nothing.
 use Prim.Native.Nat.{ℕ, _+_, _*_, _≤_, _<_, max, min}
 use native.Mathlib.Omega.{arith}
-use mathlib.Core.Path.{_≡_, sym, subst, _∙_}
+use mathlib.Core.Path.{_≡_, refl, sym}
 use mathlib.Core.List.{List}
-use mathlib.Core.Bool.{not, _&&_}
-use lib.Dec.{T as Is, eqb, eqb-refl}
+use Rattle.sums.specs.Masks.{run}
+use Rattle.sums.specs.Laws.{sum-bound, sum-ge, max-bound, min-le}
+use Rattle.sums.specs.Runs.{run-here, run-none, run-next}
 use Rattle.sums.specs.Columns.{at}
-use Rattle.sums.specs.Masks.{Mask}
-use Rattle.sums.specs.Sums.{sumOver, maxOver, minFrom}
-use Rattle.sums.specs.Laws.{over-none, over-next, sum-bound, sum-ge, max-bound, min-le, min-over}
-use Rattle.order.specs.Sheet.{Band, ownOf, NumbersAre, top, WithRow}
+use Rattle.order.specs.Sheet.{NumbersAre, top, RunIn}
+use Rattle.order.specs.Runs.{lengths-part}
 use Rattle.order.specs.declared.Numbers.{Numbers}
 
--- the numbers after k rows
-pub record After (k : ℕ) (C E : ℕ → ℕ) (own below : Mask) (x : Numbers) : Type 0 where
-  pub blocking : x .blocking ≡ maxOver k below C
-  pub longest : x .longest ≡ maxOver k own C
-  pub sum : x .sum ≡ sumOver k own C
-  pub shortest : x .shortest ≡ minFrom top k own C
-  pub tightest : x .tightest ≡ minFrom top k own E
-
-module _ (C E : ℕ → ℕ) (own below : Mask) where
-  pub after-none : After 0 C E own below (record { blocking = 0; longest = 0; sum = 0; shortest = top; tightest = top })
-  after-none =
+module _ (C A : ℕ → ℕ) (s e : ℕ) where
+  pub numbers-none : NumbersAre s C A (run s e) (record { longest = 0; sum = 0; shortest = top; tightest = top })
+  numbers-none =
       record {
-        blocking = sym (over-none max 0 below C);
-        longest = sym (over-none max 0 own C);
-        sum = sym (over-none _+_ 0 own C);
-        shortest = sym (over-none min top own C);
-        tightest = sym (over-none min top own E);
+        longest = sym (run-none max 0 refl s e C);
+        sum = sym (run-none _+_ 0 refl s e C);
+        shortest = sym (run-none min top refl s e C);
+        tightest = sym (run-none min top refl s e A);
       }
 
-  pub after-next : (k : ℕ) {x y : Numbers} (above : Mask) → below k ≡ not (above k) && not (own k) → WithRow x (C k) (E k) (own k) (above k) y → After k C E own below x → After (k + 1) C E own below y
-  after-next k above b h a =
+  pub numbers-next : (p : ℕ) (x y : Numbers) → s ≤ p → p < e
+      → y .longest ≡ max (x .longest) (C p) → y .sum ≡ x .sum + C p → y .shortest ≡ min (x .shortest) (C p) → y .tightest ≡ min (x .tightest) (A p)
+      → NumbersAre p C A (run s e) x → NumbersAre (p + 1) C A (run s e) y
+  numbers-next p x y l h longest sum shortest tightest is =
       record {
-        blocking = cc (h .blocking, a .blocking, b, over-next max 0 k below C);
-        longest = cc (h .longest, a .longest, over-next max 0 k own C);
-        sum = cc (h .sum, a .sum, over-next _+_ 0 k own C);
-        shortest = cc (h .shortest, a .shortest, over-next min top k own C);
-        tightest = cc (h .tightest, a .tightest, over-next min top k own E);
+        longest = cc (is .longest, run-next max 0 refl s e C p l h);
+        sum = cc (is .sum, run-next _+_ 0 refl s e C p l h);
+        shortest = cc (is .shortest, run-next min top refl s e C p l h);
+        tightest = cc (is .tightest, run-next min top refl s e A p l h);
       }
 
-  pub after-sum : (k : ℕ) {x : Numbers} → ((i : ℕ) → i < k → C i ≤ 4096) → After k C E own below x → x .sum ≤ k * 4096
-  after-sum k b a = omega (arith, a .sum, sum-bound k own C 4096 b)
-
-  pub after-all : (n : ℕ) {x : Numbers} (i : ℕ) → i < n → Is (own i) → ((k : ℕ) → k < n → C k ≤ top) → ((k : ℕ) → k < n → E k ≤ top) → After n C E own below x → NumbersAre n C E own below x
-  after-all n i l h bc be a =
-      record {
-        blocking = a .blocking;
-        longest = a .longest;
-        sum = a .sum;
-        shortest = a .shortest ∙ min-over top n own C i l h bc;
-        tightest = a .tightest ∙ min-over top n own E i l h be;
-      }
-
--- the row that a band has is of the band
-pub band-here : {n b : ℕ} {key before : List ℕ} (x : Band n key before b) → Is (ownOf key b (x .row))
-band-here {b = b} {key = key} x = subst (λ (y : ℕ). Is (eqb (at key (x .row)) y)) (x .here) (eqb-refl (at key (x .row)))
-
--- no sum of a band's numbers wraps
-pub record Bounds (n : ℕ) (x : Numbers) : Type 0 where
-  pub blocking : x .blocking ≤ 4096
+-- no sum of a run's numbers wraps
+pub record Bounds (e : ℕ) (x : Numbers) : Type 0 where
   pub longest : x .longest ≤ 4096
-  pub sum : x .sum ≤ n * 4096
+  pub sum : x .sum ≤ e * 4096
   pub shortest : x .shortest ≤ x .sum
   pub tightest : x .tightest ≤ 1000000
 
-pub bounds : (n : ℕ) (C E : ℕ → ℕ) (own below : Mask) {x : Numbers} (i : ℕ) → i < n → Is (own i) → ((k : ℕ) → k < n → C k ≤ 4096) → ((k : ℕ) → k < n → E k ≤ 1000000) → NumbersAre n C E own below x → Bounds n x
-bounds n C E own below i l h c e a =
+pub bounds : {n : ℕ} {c t j a : List ℕ} {s e below : ℕ} {x : Numbers} → RunIn n c t j a s e below → NumbersAre e (at c) (at a) (run s e) x → Bounds e x
+bounds {c = c} {a = a} {s = s} {e = e} h is =
+    let l = h .some in
+    let here = run-here s e s (omega arith) l in
+    let part = lengths-part (h .inside) (h .lengths) in
     record {
-      blocking = omega (arith, a .blocking, max-bound n below C 4096 c);
-      longest = omega (arith, a .longest, max-bound n own C 4096 c);
-      sum = omega (arith, a .sum, sum-bound n own C 4096 c);
-      shortest = omega (arith, a .shortest, a .sum, min-le (maxOver n own C) own C n i l h, sum-ge n own C i l h);
-      tightest = omega (arith, a .tightest, min-le (maxOver n own E) own E n i l h, e i l);
+      longest = omega (arith, is .longest, max-bound e (run s e) (at c) 4096 (part .c-most));
+      sum = omega (arith, is .sum, sum-bound e (run s e) (at c) 4096 (part .c-most));
+      shortest = omega (arith, is .shortest, is .sum, min-le top (run s e) (at c) e s l here, sum-ge e (run s e) (at c) s l here);
+      tightest = omega (arith, is .tightest, min-le top (run s e) (at a) e s l here, part .e-most s l);
     }

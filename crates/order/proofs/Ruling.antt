@@ -1,34 +1,44 @@
--- From the five numbers of a band, and what the search over the rows above answers, to the verdict. Assumes nothing.
-use Prim.Native.Nat.{ℕ, _+_, _-_, _≤_, _<_, max}
+-- From the numbers of a run, and what the search over the rows around it answers, to the verdict. Assumes nothing.
+use Prim.Native.Nat.{ℕ, _+_, _-_, _≤_, _<_, max, min}
 use native.Mathlib.Omega.{arith}
-use mathlib.Core.Path.{_≡_, refl, ap, subst, subst₂, _∙_}
-use Rattle.sums.specs.Masks.{Mask}
+use mathlib.Core.Path.{_≡_, refl, sym, subst₃, _∙_}
+use mathlib.Core.List.{List}
+use Rattle.sums.specs.Masks.{run, outside}
+use Rattle.sums.specs.Sums.{minOver, minFrom, demand}
+use Rattle.sums.specs.Laws.{min-over}
+use Rattle.sums.specs.Runs.{run-here, run-beyond}
 use Rattle.sums.specs.Least.{Least}
-use Rattle.order.specs.Table.{Table, MIN, leastE, base}
-use Rattle.order.specs.Sheet.{NumbersAre, VerdictIs}
+use Rattle.sums.specs.Columns.{at}
+use Rattle.order.specs.Sheet.{NumbersAre, top, VerdictIs, RunIn, RunVerdict}
 use Rattle.order.specs.declared.Numbers.{Numbers}
 use Rattle.order.specs.declared.Verdict.{Verdict}
 use Rattle.order.specs.declared.Verdict.the-variants.{Figure, Late}
 
--- G is F with the constant part open
-module _ (τ : Table) (own below : Mask) (G : ℕ → ℕ → ℕ) {x : Numbers} (is : NumbersAre (τ .n) (τ .C) (τ .E) own below x) where
-  abbrev Says : Verdict → Type 0
-  Says v = VerdictIs (G (base τ own below)) (MIN τ own) (leastE τ own) v
+module _ {n : ℕ} {c t j a : List ℕ} {s e below : ℕ} {x : Numbers} (h : RunIn n c t j a s e below) (is : NumbersAre e (at c) (at a) (run s e) x) where
+  -- F with the constant part open
+  abbrev F : ℕ → ℕ → ℕ
+  F base = demand n (at c) (at t) (at j) base (outside s e)
 
-  says : (v : Verdict) → VerdictIs (G (base τ own below)) (x .shortest) (x .tightest) v → Says v
-  says v h = subst₂ (λ (m e : ℕ). VerdictIs (G (base τ own below)) m e v) (is .shortest) (is .tightest) h
+  -- the numbers of the first e places are those of all n
+  least : (f : ℕ → ℕ) → ((k : ℕ) → k < n → f k ≤ top) → minFrom top e (run s e) f ≡ minOver n (run s e) f
+  least f b = sym (run-beyond min top refl s e f (λ a b c. omega arith) n (h .inside)) ∙ min-over top n (run s e) f s (omega (arith, h .some, h .inside)) (run-here s e s (omega arith) (h .some)) b
+
+  says : (l : ℕ) → l ≡ max below (x .longest) → (v : Verdict) → VerdictIs (F (l + (x .sum - x .shortest))) (x .shortest) (x .tightest) v → RunVerdict n c t j a s e below v
+  says l longest v ruling =
+      let shortest = is .shortest ∙ least (at c) (λ k i. omega (arith, h .lengths .c-most k i)) in
+      subst₃ (λ (b m y : ℕ). VerdictIs (F b) m y v)
+      (cc (longest, is .longest, is .sum, shortest, run-beyond max 0 refl s e (at c) (λ a b c. omega arith) n (h .inside), run-beyond _+_ 0 refl s e (at c) (λ a b c. omega arith) n (h .inside)))
+      shortest
+      (is .tightest ∙ least (at a) (λ k i. omega (arith, h .lengths .e-most k i)))
+      ruling
 
   -- the shortest length alone is past the time allowed
-  pub no-time : x .tightest < x .shortest → Says Late
-  no-time h = says Late (λ p. absurd (omega (arith, p .within)))
+  pub no-time : x .tightest < x .shortest → RunVerdict n c t j a s e below Late
+  no-time late = says (max below (x .longest)) refl Late (λ p. absurd (omega (arith, p .within)))
 
-  module _ (b : ℕ) (e : b ≡ max (x .blocking) (x .longest) + (x .sum - x .shortest)) (time : x .shortest ≤ x .tightest) where
-    constant : b ≡ base τ own below
-    unfolding base
-    constant = cc (e, is .blocking, is .longest, is .sum, is .shortest)
+  module _ {l : ℕ} (longest : l ≡ max below (x .longest)) (time : x .shortest ≤ x .tightest) where
+    pub found : {w : ℕ} → Least (F (l + (x .sum - x .shortest))) w → w ≤ x .tightest - x .shortest → RunVerdict n c t j a s e below (Figure (w + x .shortest))
+    found {w} solved within = says l longest (Figure (w + x .shortest)) (record { w = w; least = solved; is = refl; within = omega arith })
 
-    pub found : {w : ℕ} → Least (G b) w → w ≤ x .tightest - x .shortest → Says (Figure (w + x .shortest))
-    found {w} l h = says (Figure (w + x .shortest)) (record { w = w; least = subst (λ (y : ℕ). Least (G y) w) constant l; is = refl; within = omega arith })
-
-    pub never : ((v : ℕ) → G b v ≡ v → x .tightest - x .shortest < v) → Says Late
-    never h = says Late (λ p. absurd (omega (arith, h (p .w) (ap (λ (y : ℕ). G y (p .w)) constant ∙ p .solves), p .within)))
+    pub never : ((v : ℕ) → F (l + (x .sum - x .shortest)) v ≡ v → x .tightest - x .shortest < v) → RunVerdict n c t j a s e below Late
+    never past = says l longest Late (λ p. absurd (omega (arith, past (p .w) (p .solves), p .within)))

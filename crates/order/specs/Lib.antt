@@ -10,4 +10,7 @@ pub mod Moving
 pub mod Split
 pub mod Sheet
 pub mod Marks
+pub mod Along
+pub mod Arranged
+pub mod Runs
 pub mod Gathering

@@ -1,18 +1,19 @@
 -- A table as code holds it: a list for each column, flags for the rows that stand before a band, and what the functions over them answer.
 -- Definitions only.
 -- Assumes nothing.
-use Prim.Native.Nat.{ℕ, _+_, _≤_, _<_, max, min}
+use Prim.Native.Nat.{ℕ, _+_, _-_, _≤_, _<_, max, min}
 use mathlib.Core.Path.{_≡_}
 use mathlib.Core.Bool.{Bool, not, cond, _&&_}
 use mathlib.Core.List.{List}
 use lib.ListN.{length}
 use lib.Dec.{eqb}
-use Rattle.sums.specs.Masks.{Mask, every, except}
-use Rattle.sums.specs.Sums.{sumOver, maxOver, minOver, load, demand}
+use Rattle.sums.specs.Masks.{Mask, every, except, run, outside}
+use Rattle.sums.specs.Sums.{sumOver, maxOver, minFrom, minOver, load, demand}
 use Rattle.sums.specs.Least.{Fits}
 use Rattle.sums.specs.Columns.{Columns, at, flagged}
 use Rattle.licence.specs.Limit.{limit}
 use Rattle.order.specs.Table.{Table, MIN, leastE, base, FigureIs}
+use Rattle.order.specs.declared.BandNumbers.{BandNumbers}
 use Rattle.order.specs.declared.Numbers.{Numbers}
 use Rattle.order.specs.declared.Verdict.{Verdict}
 use Rattle.order.specs.declared.Verdict.the-variants.{Figure, Late}
@@ -45,7 +46,7 @@ abbrev pub belowOf : (key before : List ℕ) (b : ℕ) → Mask
 belowOf key before b = except (λ k. not (flagged before k)) (ownOf key b)
 
 -- B, MAX, SUM, MIN and the least E
-pub record NumbersAre (n : ℕ) (C E : ℕ → ℕ) (own below : Mask) (x : Numbers) : Type 0 where
+pub record BandNumbersAre (n : ℕ) (C E : ℕ → ℕ) (own below : Mask) (x : BandNumbers) : Type 0 where
   pub blocking : x .blocking ≡ maxOver n below C
   pub longest : x .longest ≡ maxOver n own C
   pub sum : x .sum ≡ sumOver n own C
@@ -57,7 +58,7 @@ abbrev pub top : ℕ
 top = 4294967295
 
 -- the numbers with one row more, of length c and time allowed e; a least number starts at the top
-pub record WithRow (x : Numbers) (c e : ℕ) (own above : Bool) (y : Numbers) : Type 0 where
+pub record WithRow (x : BandNumbers) (c e : ℕ) (own above : Bool) (y : BandNumbers) : Type 0 where
   pub blocking : y .blocking ≡ max (x .blocking) (cond (not above && not own) c 0)
   pub longest : y .longest ≡ max (x .longest) (cond own c 0)
   pub sum : y .sum ≡ x .sum + cond own c 0
@@ -79,3 +80,41 @@ abbrev pub BandVerdict : (n : ℕ) (c e key before : List ℕ) (b g : ℕ) (gc g
 BandVerdict n c e key before b g gc gt gj v =
     let τ : Table = sheet n c gt gj e key in
     VerdictIs (demand g (at gc) (at gt) (at gj) (base τ (ownOf key b) (belowOf key before b)) every) (MIN τ (ownOf key b)) (leastE τ (ownOf key b)) v
+
+-- ---- bands as runs of places: the columns stand along an order, and the rows of a band at the places s .. e - 1
+
+-- MAX, SUM, MIN and the least time allowed of the places of m below k; a least number starts at the top
+pub record NumbersAre (k : ℕ) (C A : ℕ → ℕ) (m : Mask) (x : Numbers) : Type 0 where
+  pub longest : x .longest ≡ maxOver k m C
+  pub sum : x .sum ≡ sumOver k m C
+  pub shortest : x .shortest ≡ minFrom top k m C
+  pub tightest : x .tightest ≡ minFrom top k m A
+
+-- a run with a row, in columns of n places, and the longest C below it
+pub record RunIn (n : ℕ) (c t j a : List ℕ) (s e below : ℕ) : Type 0 where
+  pub rates : Columns n c t j
+  pub lengths : Lengths n c a
+  pub some : s < e
+  pub inside : e ≤ n
+  pub short : below ≤ 4096
+
+-- the verdict on the run: the rows of the other places below n are above it
+abbrev pub RunVerdict : (n : ℕ) (c t j a : List ℕ) (s e below : ℕ) → Verdict → Type 0
+RunVerdict n c t j a s e below v =
+    VerdictIs
+    (demand n (at c) (at t) (at j) (max below (maxOver n (run s e) (at c)) + (sumOver n (run s e) (at c) - minOver n (run s e) (at c))) (outside s e))
+    (minOver n (run s e) (at c))
+    (minOver n (run s e) (at a))
+    v
+
+-- places of a column of C, and the longest C below them
+pub record Stretch (c : List ℕ) (s e below : ℕ) : Type 0 where
+  pub forward : s ≤ e
+  pub long : e ≤ length c
+  pub most : (p : ℕ) → s ≤ p → p < e → at c p ≤ 4096
+  pub short : below ≤ 4096
+
+-- the longest C below and at the places s .. e - 1
+pub record LongestIs (c : List ℕ) (s e below r : ℕ) : Type 0 where
+  pub is : r ≡ max below (maxOver e (run s e) (at c))
+  pub short : r ≤ 4096

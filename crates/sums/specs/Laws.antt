@@ -1,7 +1,7 @@
 -- Laws of the sums, each said once for sum, greatest and least alike: they look only at the rows below n, they take in one row more, and
 -- they grow with what they are over. So does F.
 -- Assumes nothing.
-use Prim.Native.Nat.{ℕ, zero, suc, _+_, _-_, _*_, _≤_, _<_, max, min, zero-le}
+use Prim.Native.Nat.{ℕ, zero, suc, _+_, _*_, _≤_, _<_, max, min, zero-le}
 use native.Mathlib.Nat.{le-refl, le-trans, le-antisymm, le-of-eq, mul-one, mul-le-mul, add-le-add, eq-or-lt-of-le, le-of-suc-le-suc}
 use native.Mathlib.Numerals.{add-one}
 use native.Mathlib.Omega.{arith}
@@ -78,17 +78,37 @@ sum-mono = over-mono _+_ (λ a b c d h k. add-le-add h k)
 pub max-mono : (n : ℕ) (m m′ : Mask) (f f′ : ℕ → ℕ) → ((k : ℕ) → k < n → Is (m k) → Is (m′ k)) → ((k : ℕ) → k < n → Is (m k) → f k ≤ f′ k) → maxOver n m f ≤ maxOver n m′ f′
 max-mono = over-mono max max-le-max
 
--- a mask with one row more
+-- ---- rows in any order, for an op that does not care which of two comes first
+
+module _ (op : ℕ → ℕ → ℕ) (z : ℕ) (zz : op z z ≡ z) (swap : (a b c : ℕ) → op (op a b) c ≡ op (op a c) b) where
+  -- z adds nothing
+  pub over-idle : (n : ℕ) (m : Mask) (f : ℕ → ℕ) → op (over op z n m f) z ≡ over op z n m f
+  unfolding over
+  over-idle zero m f = zz
+  over-idle (suc n) m f = swap _ _ _ ∙ ap (λ (y : ℕ). op y (cond (m n) (f n) z)) (over-idle n m f)
+
+  -- rows from e on that m does not have add nothing
+  pub over-beyond : (e n : ℕ) (m : Mask) (f : ℕ → ℕ) → e ≤ n → ((k : ℕ) → e ≤ k → k < n → Is (m k) → ⊥) → over op z n m f ≡ over op z e m f
+  unfolding over
+  over-beyond e zero m f l h = let q : 0 ≡ e = omega arith in ap (λ (y : ℕ). over op z y m f) q
+  over-beyond e (suc n) m f l h = go (eq-or-lt-of-le l) (λ i. over-beyond e n m f i (λ k b c. h k b (omega arith)))
+    where
+      go : (e ≡ suc n) ⊎ (e < suc n) → (e ≤ n → over op z n m f ≡ over op z e m f) → over op z (suc n) m f ≡ over op z e m f
+      go (inl q) ih = ap (λ (y : ℕ). over op z y m f) (sym q)
+      go (inr i) ih = rw (is-false (m n) (h n (omega arith) (le-refl (suc n)))) (over-idle n m f ∙ ih (omega arith))
+
+  -- a mask with one row more
+  pub over-insert : (n : ℕ) (m m′ : Mask) (f : ℕ → ℕ) (x : ℕ) → x < n → m x ≡ false → m′ x ≡ true → ((k : ℕ) → k < n → (k ≡ x → ⊥) → m′ k ≡ m k) → over op z n m′ f ≡ op (over op z n m f) (f x)
+  unfolding over
+  over-insert zero m m′ f x l out in′ h = absurd (omega arith)
+  over-insert (suc n) m m′ f x l out in′ h = go (eq-or-lt-of-le (le-of-suc-le-suc l)) (λ i. over-insert n m m′ f x i out in′ (λ k b. h k (omega arith)))
+    where
+      go : (x ≡ n) ⊎ (x < n) → (x < n → over op z n m′ f ≡ op (over op z n m f) (f x)) → over op z (suc n) m′ f ≡ op (over op z (suc n) m f) (f x)
+      go (inl e) ih = rw (← e, out, in′, over-idle x m f) (ap (λ (y : ℕ). op y (f x)) (over-same op z x m′ m f f (λ k b. h k (omega arith) (λ q. absurd (omega arith))) (λ k b. refl)))
+      go (inr i) ih = rw (ih i, h n (le-refl (suc n)) (λ q. absurd (omega arith))) (swap _ _ _)
+
 pub sum-insert : (n : ℕ) (m m′ : Mask) (f : ℕ → ℕ) (x : ℕ) → x < n → m x ≡ false → m′ x ≡ true → ((k : ℕ) → k < n → (k ≡ x → ⊥) → m′ k ≡ m k) → sumOver n m′ f ≡ sumOver n m f + f x
-unfolding over
-sum-insert zero m m′ f x l out in′ h = absurd (omega arith)
-sum-insert (suc n) m m′ f x l out in′ h = go (eq-or-lt-of-le (le-of-suc-le-suc l)) (λ i. sum-insert n m m′ f x i out in′ (λ k b. h k (omega arith)))
-  where
-    go : (x ≡ n) ⊎ (x < n) → (x < n → sumOver n m′ f ≡ sumOver n m f + f x) → sumOver n m′ f + cond (m′ n) (f n) 0 ≡ sumOver n m f + cond (m n) (f n) 0 + f x
-    go (inl e) ih =
-        let a = over-same _+_ 0 n m′ m f f (λ k b. h k (omega arith) (λ q. absurd (omega arith))) (λ k b. refl) in
-        rw (← e, out, in′) (omega (arith, ap (λ (y : ℕ). sumOver y m′ f) e, ap (λ (y : ℕ). sumOver y m f) e))
-    go (inr i) ih = let a = ih i in rw (h n (le-refl (suc n)) (λ q. absurd (omega arith))) (omega arith)
+sum-insert = over-insert _+_ 0 refl (λ a b c. omega arith)
 
 -- ---- sum, greatest and least have bounds
 
@@ -215,10 +235,6 @@ demand-base n C T J base above w = omega arith
 
 -- F row by row
 module _ (C T J : ℕ → ℕ) (base : ℕ) (above : Mask) (w : ℕ) where
-  pub demand-none : demand 0 C T J base above w ≡ base
-  unfolding demand over
-  demand-none = omega arith
-
   pub demand-turn : (k : ℕ) {x y : ℕ} → above k ≡ true → x ≡ demand k C T J base above w → y ≡ x + load C T J w k → y ≡ demand (k + 1) C T J base above w
   unfolding demand
   demand-turn k t e h =

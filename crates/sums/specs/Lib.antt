@@ -3,6 +3,7 @@ pub mod MaskLaws
 pub mod Sums
 pub mod Quotient
 pub mod Laws
+pub mod Runs
 pub mod Move
 pub mod Least
 pub mod Climb

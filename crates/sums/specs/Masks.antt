@@ -3,6 +3,7 @@
 -- Assumes nothing.
 use Prim.Native.Nat.{ℕ, zero, suc}
 use mathlib.Core.Bool.{Bool, true, false, not, _&&_, _||_}
+use lib.Dec.{leb, ltb}
 
 -- a set of rows: those at which it is true
 abbrev pub Mask : Type 0
@@ -15,6 +16,13 @@ every k = true
 -- the rows of m that are not in o
 abbrev pub except : Mask → Mask → Mask
 except m o k = m k && not (o k)
+
+-- the places s .. e - 1, and all others
+abbrev pub run : (s e : ℕ) → Mask
+run s e p = leb s p && ltb p e
+
+abbrev pub outside : (s e : ℕ) → Mask
+outside s e p = not (run s e p)
 
 -- does some number below n pass the test?
 unfoldable pub anyBelow : ℕ → Mask → Bool

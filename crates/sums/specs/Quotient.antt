@@ -1,9 +1,9 @@
 -- Laws of the rounded-up quotient.
 -- Assumes nothing.
-use Prim.Native.Nat.{ℕ, zero, suc, _+_, _-_, _*_, _≤_, _<_, zero-le, suc-le-suc}
-use native.Mathlib.Nat.{div-lt-iff-lt-mul, le-of-suc-le-suc, zero-mul, mul-one, le-of-eq, le-trans, mul-le-mul-left, div-zero, lt-div-mul-add}
+use Prim.Native.Nat.{ℕ, zero, suc, _+_, _-_, _*_, _/_, _≤_, _<_, zero-le, suc-le-suc}
+use native.Mathlib.Nat.{div-lt-iff-lt-mul, le-of-suc-le-suc, zero-mul, mul-one, le-of-eq, le-trans, mul-le-mul-left, div-zero, lt-div-mul-add, add-div-right}
 use native.Mathlib.Omega.{arith}
-use mathlib.Core.Path.{sym}
+use mathlib.Core.Path.{_≡_, sym, ap, _∙_}
 use Rattle.sums.specs.Sums.{ceil}
 
 pub ceil-le : {a q : ℕ} (t : ℕ) → 0 < t → a ≤ q * t → ceil a t ≤ q
@@ -32,3 +32,8 @@ ceil-pos a t h k = go (ceil a t) (ceil-ge a t k)
 
 pub ceil-bound : (a t : ℕ) → 0 < t → ceil a t ≤ a
 ceil-bound a t p = ceil-le t p (le-trans (le-of-eq (sym (mul-one a))) (mul-le-mul-left a p))
+
+-- as code takes it
+pub ceil-next : (a t : ℕ) → 0 < t → ceil (a + 1) t ≡ a / t + 1
+unfolding ceil
+ceil-next a t p = ap (λ (x : ℕ). x / t) (omega arith) ∙ add-div-right a p

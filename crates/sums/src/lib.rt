@@ -2,7 +2,7 @@
 ghost use mathlib.Core.Path.{_≡_};
 ghost use Prim.Native.Nat.{_+_, _*_, _≤_};
 ghost use Rattle.sums.specs.Columns.{Columns, at};
-ghost use Rattle.sums.specs.Masks.{every};
+ghost use Rattle.sums.specs.Masks.{run, outside};
 ghost use Rattle.sums.specs.Sums.{ceil, demand};
 ghost use Rattle.sums.specs.Least.{SettledIs, DemandIs};
 
@@ -24,23 +24,32 @@ fn wide(x: u32) -> u64
     x as u64
 }
 
-// What a row above adds within w.
+// What a row above adds within w. One more than the quotient rounded down is the quotient of one more, rounded up.
 fn load_of(c: u32, t: u32, j: u32, w: u32) -> u64
     requires { ⌜ (c ≤ 4096) × (1 ≤ t) × (t ≤ 1000000) × (j ≤ 1000000) × (w ≤ 1000000) ⌝ }
     ensures { λ r. ⌜ (r ≡ c * ceil (w + j + 1) t) × (r ≤ 8192004096) ⌝ }
 {
-    let times = (w + j + 1 + (t - 1)) / t;
+    let times = (w + j) / t + 1;
     wide(c) * wide(times)
 }
 
-// F(w), as far as the cap: the sum stops where it passes it.
-fn demand_within(base: u32, n: usize, c: &[u32], t: &[u32], j: &[u32], cap: u32, w: u32) -> Demand
-    requires { ⌜ Columns n (now c) (now t) (now j) × (base ≤ cap) × (cap ≤ 1000000) × (w ≤ cap) ⌝ }
-    ensures { λ r. ⌜ DemandIs (demand n (at (now (c .entry))) (at (now (t .entry))) (at (now (j .entry))) base every w) cap r ⌝ }
+// `start` and what the rows of the places from .. to - 1 add within w, as far as the cap: the sum stops where it passes it.
+fn demand_within(
+    start: u32,
+    from: usize,
+    to: usize,
+    c: &[u32],
+    t: &[u32],
+    j: &[u32],
+    cap: u32,
+    w: u32,
+) -> Demand
+    requires { ⌜ Columns to (now c) (now t) (now j) × (from ≤ to) × (start ≤ cap) × (cap ≤ 1000000) × (w ≤ cap) ⌝ }
+    ensures { λ r. ⌜ DemandIs (demand to (at (now (c .entry))) (at (now (t .entry))) (at (now (j .entry))) start (run from to) w) cap r ⌝ }
 {
-    let mut sum = base;
-    let mut k: usize = 0;
-    while k < n {
+    let mut sum = start;
+    let mut k = from;
+    while k < to {
         let next = wide(sum) + load_of(c[k], t[k], j[k], w);
         if wide(cap) < next {
             return Demand::Past;
@@ -51,17 +60,48 @@ fn demand_within(base: u32, n: usize, c: &[u32], t: &[u32], j: &[u32], cap: u32,
     Demand::Is(sum)
 }
 
-// The least w with F(w) = w, if it is within the cap.
-pub fn least_within(base: u32, n: usize, c: &[u32], t: &[u32], j: &[u32], cap: u32) -> Settled
-    requires { ⌜ Columns n (now c) (now t) (now j) × (cap ≤ 1000000) ⌝ }
-    ensures { λ r. ⌜ SettledIs (demand n (at (now (c .entry))) (at (now (t .entry))) (at (now (j .entry))) base every) cap r ⌝ }
+// F(w) for the rows of the places below n outside s .. e - 1, as far as the cap.
+fn demand_around(
+    base: u32,
+    n: usize,
+    s: usize,
+    e: usize,
+    c: &[u32],
+    t: &[u32],
+    j: &[u32],
+    cap: u32,
+    w: u32,
+) -> Demand
+    requires { ⌜ Columns n (now c) (now t) (now j) × (s ≤ e) × (e ≤ n) × (base ≤ cap) × (cap ≤ 1000000) × (w ≤ cap) ⌝ }
+    ensures { λ r. ⌜ DemandIs (demand n (at (now (c .entry))) (at (now (t .entry))) (at (now (j .entry))) base (outside s e) w) cap r ⌝ }
+{
+    let part = demand_within(base, 0, s, c, t, j, cap, w);
+    let Demand::Is(sum) = part else {
+        return Demand::Past;
+    };
+    demand_within(sum, e, n, c, t, j, cap, w)
+}
+
+// The least w with F(w) = w for the rows of the places below n outside s .. e - 1, if it is within the cap.
+pub fn least_around(
+    base: u32,
+    n: usize,
+    s: usize,
+    e: usize,
+    c: &[u32],
+    t: &[u32],
+    j: &[u32],
+    cap: u32,
+) -> Settled
+    requires { ⌜ Columns n (now c) (now t) (now j) × (s ≤ e) × (e ≤ n) × (cap ≤ 1000000) ⌝ }
+    ensures { λ r. ⌜ SettledIs (demand n (at (now (c .entry))) (at (now (t .entry))) (at (now (j .entry))) base (outside s e)) cap r ⌝ }
 {
     if cap < base {
         return Settled::Never;
     }
     let mut w = base;
     loop {
-        let sum = demand_within(base, n, c, t, j, cap, w);
+        let sum = demand_around(base, n, s, e, c, t, j, cap, w);
         let Demand::Is(next) = sum else {
             return Settled::Never;
         };

@@ -1,72 +1,47 @@
--- `order::numbers_of` meets its contract: after k rows the five numbers are those of the first k rows. Assumes nothing.
+-- `order::numbers_of` meets its contract: before place p the four numbers are those of the places passed. Assumes nothing.
 use borrow.Author.Needs.{needs}
 use native.Mathlib.Omega.{arith}
 use Prim.Native.Nat.{_≤_, _-_}
 use mathlib.Core.Path.{_≡_, refl}
-use Rattle.sums.specs.Columns.{at, flagged}
+use Rattle.sums.specs.Columns.{at}
+use Rattle.sums.specs.Masks.{run}
+use Rattle.sums.specs.Laws.{sum-bound}
 use Rattle.licence.specs.Limit.{limit}
-use Rattle.order.specs.Sheet.{ownOf, belowOf}
-use Rattle.order.proofs.Rows.{After, after-none, after-next, after-sum, after-all, band-here}
+use Rattle.order.specs.Sheet.{NumbersAre}
+use Rattle.order.proofs.Rows.{numbers-none, numbers-next}
 use Rattle.order.proofs.numbers_of.Statement.{statement}
 use Rattle.order.proofs.numbers_of.Tie as tie
 
 abbrev Inv-loop : tie.InvT-loop
-Inv-loop n c e key before band x₀ k₀ x k = (k ≤ n) × After k (at c) (at e) (ownOf key band) (belowOf key before band) x
+Inv-loop c a s e longest₀ sum₀ shortest₀ tightest₀ p₀ longest sum shortest tightest p =
+    (s ≤ p) × (p ≤ e) × NumbersAre p (at c) (at a) (run s e) (record { longest = longest; sum = sum; shortest = shortest; tightest = tightest })
 
 abbrev μ-loop : tie.MeasureT-loop
-μ-loop n c e key before band x₀ k₀ x k = n - k
+μ-loop c a s e longest₀ sum₀ shortest₀ tightest₀ p₀ longest sum shortest tightest p = e - p
 
 loop-holds : tie.Need-loop-holds Inv-loop μ-loop
-loop-holds c = (omega arith, after-none _ _ _ _)
+loop-holds c = (omega arith, omega arith, numbers-none _ _ _ _)
 
-mul-with-row : tie.Need-mul-with-row Inv-loop μ-loop
-mul-with-row c = search needs
-
-shared-slice-read-with-row : tie.Need-shared-slice-read-with-row Inv-loop μ-loop
-shared-slice-read-with-row c = search needs
-
-mul-with-row-2 : tie.Need-mul-with-row-2 Inv-loop μ-loop
-mul-with-row-2 c = search needs
-
-shared-slice-read-with-row-2 : tie.Need-shared-slice-read-with-row-2 Inv-loop μ-loop
-shared-slice-read-with-row-2 c = search needs
-
-mul-with-row-3 : tie.Need-mul-with-row-3 Inv-loop μ-loop
-mul-with-row-3 c = search needs
-
-shared-slice-read-with-row-3 : tie.Need-shared-slice-read-with-row-3 Inv-loop μ-loop
-shared-slice-read-with-row-3 c = search needs
-
-mul-with-row-4 : tie.Need-mul-with-row-4 Inv-loop μ-loop
-mul-with-row-4 c = search needs
-
-shared-slice-read-with-row-4 : tie.Need-shared-slice-read-with-row-4 Inv-loop μ-loop
-shared-slice-read-with-row-4 c = search needs
-
-with-row-requires : tie.Need-with-row-requires Inv-loop μ-loop
+add-sum : tie.Need-add-sum Inv-loop μ-loop
 unfolding limit
-with-row-requires c κs =
-    let s = c .before .before .before .before .before .before .before .before .before .before in
-    let k = c .before .before .before .before .before .loop .k in
+add-sum c =
+    let s = c .before .before .before .before .before .before .before in
+    let l = c .before .before .before .before .loop in
     let m = s .pre .0 .c-most in
     let few = s .pre .0 .few in
-    omega (arith, after-sum _ _ _ _ k (λ i l. m i (omega arith)) (c .before .before .before .before .before .loop .inv .1), m k (omega arith))
-
-add-k : tie.Need-add-k Inv-loop μ-loop
-add-k c = search needs
-
-loop-less : tie.Need-loop-less Inv-loop μ-loop
-loop-less c = search needs
+    omega (arith, l .inv .2 .sum, sum-bound (l .p) (run (s .args .s) (s .args .e)) (at (s .args .c .now)) 4096 (λ k b. m k (omega arith)), m (l .p) (omega arith))
 
 loop-again : tie.Need-loop-again Inv-loop μ-loop
-loop-again c = (omega arith, after-next _ _ _ _ _ (flagged (c .before .before .before .before .before .before .before .before .before .before .before .args .before .now)) refl (c .with-row .ensures) (c .before .before .before .before .before .before .loop .inv .1))
+loop-again c = (
+  omega arith,
+  omega arith,
+  numbers-next _ _ _ _ _ _ _ (omega arith) (omega arith) (c .before .before .before .before .before .larger .ensures) refl (c .before .before .smaller .ensures) (c .smaller2 .ensures) (c .before .before .before .before .before .before .before .before .loop .inv .2),
+)
 
 returns : tie.Need-returns Inv-loop μ-loop
 returns c =
-    let s = c .before .before .before .before .before .before in
-    let e : c .before .loop .k ≡ s .args .n = omega arith in
-    let b = s .pre .1 in
-    after-all _ _ _ _ _ (b .row) (b .inside) (band-here b) (λ k l. let h = c .before .before .before .before .before .shared-slice-known .given k in omega arith) (λ k l. let h = c .before .before .before .before .shared-slice-known2 .given k in omega arith) (rw e at (c .before .loop .inv .1))
+    let e : c .before .loop .p ≡ c .before .before .before .before .args .e = omega arith in
+    rw e at (c .before .loop .inv .2)
 
 pub numbers-of-spec : {M : Type 1} → statement M
 numbers-of-spec =
@@ -75,16 +50,19 @@ numbers-of-spec =
     Inv-loop
     μ-loop
     loop-holds
-    mul-with-row
-    shared-slice-read-with-row
-    mul-with-row-2
-    shared-slice-read-with-row-2
-    mul-with-row-3
-    shared-slice-read-with-row-3
-    mul-with-row-4
-    shared-slice-read-with-row-4
-    with-row-requires
-    add-k
-    loop-less
+    (λ c. search needs)
+    (λ c. search needs)
+    (λ c κs. search needs)
+    (λ c. search needs)
+    (λ c. search needs)
+    add-sum
+    (λ c. search needs)
+    (λ c. search needs)
+    (λ c κs. search needs)
+    (λ c. search needs)
+    (λ c. search needs)
+    (λ c κs. search needs)
+    (λ c. search needs)
+    (λ c. search needs)
     loop-again
     returns)

@@ -1,4 +1,4 @@
--- `sums::least_within` meets its contract: it climbs, and stays within the cap. Where it starts is seen only by `loop-holds` and `returns`.
+-- `sums::least_around` meets its contract: it climbs, and stays within the cap. Where it starts is seen only by `loop-holds` and `returns`.
 -- Assumes nothing.
 use borrow.Author.Needs.{needs}
 use native.Mathlib.Omega.{arith}
@@ -6,21 +6,21 @@ use Prim.Native.Nat.{ℕ, _≤_, _-_}
 use mathlib.Core.Path.{_≡_, sym, subst, _∙_}
 use mathlib.Core.List.{List}
 use Rattle.sums.specs.Columns.{at}
-use Rattle.sums.specs.Masks.{every}
+use Rattle.sums.specs.Masks.{outside}
 use Rattle.sums.specs.Sums.{demand}
 use Rattle.sums.specs.Laws.{demand-base, demand-grows}
 use Rattle.sums.specs.Climb.{OnWay, from-below, one-step, arrived, too-far, demand-is, demand-past}
-use Rattle.sums.proofs.least_within.Statement.{statement}
-use Rattle.sums.proofs.least_within.Tie as tie
+use Rattle.sums.proofs.least_around.Statement.{statement}
+use Rattle.sums.proofs.least_around.Tie as tie
 
-abbrev F : ℕ → ℕ → List ℕ → List ℕ → List ℕ → ℕ → ℕ
-F base n c t j = demand n (at c) (at t) (at j) base every
+abbrev F : (base n s e : ℕ) (c t j : List ℕ) → ℕ → ℕ
+F base n s e c t j = demand n (at c) (at t) (at j) base (outside s e)
 
 abbrev Inv-loop : tie.InvT-loop
-Inv-loop base n c t j cap w₀ w = OnWay (F base n c t j) w × (w ≤ cap)
+Inv-loop base n s e c t j cap w₀ w = OnWay (F base n s e c t j) w × (w ≤ cap)
 
 abbrev μ-loop : tie.MeasureT-loop
-μ-loop base n c t j cap w₀ w = cap - w
+μ-loop base n s e c t j cap w₀ w = cap - w
 
 returns : tie.Need-returns Inv-loop μ-loop
 returns c = too-far _ _ (from-below _ _ (demand-base _ _ _ _ _ _)) (c .if1 .taken)
@@ -28,25 +28,16 @@ returns c = too-far _ _ (from-below _ _ (demand-base _ _ _ _ _ _)) (c .if1 .take
 loop-holds : tie.Need-loop-holds Inv-loop μ-loop
 loop-holds c = (from-below _ _ (demand-base _ _ _ _ _ _), c .if1 .left)
 
-demand-within-requires : tie.Need-demand-within-requires Inv-loop μ-loop
-demand-within-requires c κs = search needs
-
-enum-known-sum : tie.Need-enum-known-sum Inv-loop μ-loop
-enum-known-sum c = search needs
-
-enum-told : tie.Need-enum-told Inv-loop μ-loop
-enum-told c = search needs
-
 returns-2 : tie.Need-returns-2 Inv-loop μ-loop
 returns-2 c =
     let h = c .before .before .before .loop .inv .0 in
-    let far = demand-past _ _ (c .before .before .demand-within .ensures) (c .enum-told .given .1) in
+    let far = demand-past _ _ (c .before .before .demand-around .ensures) (c .enum-told .given .1) in
     too-far _ _ (one-step _ (demand-grows _ _ _ _ _ _) h) far
 
 -- the sum is F(w), and within the cap
 summed : (c : tie.After-known-told Inv-loop μ-loop) → let a = c .before .before .before .before .before .before .before .before .before .args in
-    (c .before .sum .given .0 .0 ≡ F (a .base) (a .n) (a .c .now) (a .t .now) (a .j .now) (c .before .before .before .before .loop .w)) × (c .before .sum .given .0 .0 ≤ a .cap)
-summed c = demand-is _ _ (c .before .before .before .demand-within .ensures) (c .before .sum .given .1)
+    (c .before .sum .given .0 .0 ≡ F (a .base) (a .n) (a .s) (a .e) (a .c .now) (a .t .now) (a .j .now) (c .before .before .before .before .loop .w)) × (c .before .sum .given .0 .0 ≤ a .cap)
+summed c = demand-is _ _ (c .before .before .before .demand-around .ensures) (c .before .sum .given .1)
 
 returns-3 : tie.Need-returns-3 Inv-loop μ-loop
 returns-3 c = (arrived _ (c .before .before .before .before .before .loop .inv .0) (sym (summed (c .before) .0) ∙ c .if2 .taken), c .before .before .before .before .before .loop .inv .1)
@@ -59,17 +50,17 @@ loop-again c =
     let e = summed (c .before) in
     (subst (OnWay _) (sym (e .0)) (one-step _ (demand-grows _ _ _ _ _ _) (c .before .before .before .before .before .loop .inv .0)), e .1)
 
-pub least-within-spec : {M : Type 1} → statement M
-least-within-spec =
+pub least-around-spec : {M : Type 1} → statement M
+least-around-spec =
     tie.close
     (tie.spec
     Inv-loop
     μ-loop
     returns
     loop-holds
-    demand-within-requires
-    enum-known-sum
-    enum-told
+    (λ c κs. search needs)
+    (λ c. search needs)
+    (λ c. search needs)
     returns-2
     returns-3
     loop-less

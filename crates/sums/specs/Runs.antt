@@ -1,0 +1,74 @@
+-- Runs of places: which places are of a run, what is put together over them place by place, and F of the rows around a run as two runs, the
+-- one before it and the one behind it.
+-- Assumes nothing.
+use Prim.Native.Nat.{ℕ, zero, suc, _+_, _≤_, _<_, zero-le}
+use native.Mathlib.Nat.{le-refl}
+use native.Mathlib.Decide.{decLt}
+use native.Mathlib.Omega.{arith}
+use mathlib.Core.Path.{_≡_, refl, ap, _∙_}
+use mathlib.Core.Bool.{Bool, true, cond}
+use lib.Dec.{T as Is, leb, ltb, leb→le, le→leb, ltb→lt, lt→ltb}
+use borrow.Author.Tests.{le-leb, lt-leb, le-ltb}
+use Rattle.sums.specs.Masks.{Mask, run, outside}
+use Rattle.sums.specs.MaskLaws.{is-true, and-left, and-right, and-intro}
+use Rattle.sums.specs.Sums.{over, sumOver, load, demand}
+use Rattle.sums.specs.Laws.{over-empty, over-next, over-beyond, demand-base}
+
+module _ (s e p : ℕ) where
+  pub run-here : s ≤ p → p < e → Is (run s e p)
+  run-here l h = and-intro (leb s p) (ltb p e) (le→leb s p l) (lt→ltb p e h)
+
+  pub run-from : Is (run s e p) → s ≤ p
+  run-from h = leb→le s p (and-left (leb s p) (ltb p e) h)
+
+  pub run-to : Is (run s e p) → p < e
+  run-to h = ltb→lt p e (and-right (leb s p) (ltb p e) h)
+
+  pub run-true : s ≤ p → p < e → run s e p ≡ true
+  run-true l h = is-true (run s e p) (run-here l h)
+
+-- what is put together over a run: nothing before it, place by place in it, and no more behind it
+module _ (op : ℕ → ℕ → ℕ) (z : ℕ) (zz : op z z ≡ z) (s e : ℕ) (f : ℕ → ℕ) where
+  pub run-none : over op z s (run s e) f ≡ z
+  run-none = over-empty op z zz (run s e) f s (λ k l h. omega (arith, run-from s e k h))
+
+  pub run-next : (p : ℕ) → s ≤ p → p < e → over op z (p + 1) (run s e) f ≡ op (over op z p (run s e) f) (f p)
+  run-next p l h = over-next op z p (run s e) f ∙ ap (λ (b : Bool). op (over op z p (run s e) f) (cond b (f p) z)) (run-true s e p l h)
+
+  pub run-beyond : ((a b c : ℕ) → op (op a b) c ≡ op (op a c) b) → (n : ℕ) → e ≤ n → over op z n (run s e) f ≡ over op z e (run s e) f
+  run-beyond swap n l = over-beyond op z zz swap e n (run s e) f l (λ k b i h. omega (arith, run-to s e k h))
+
+-- a sum over the rows of two masks that have none in common
+sum-parts : (n : ℕ) (m a b : Mask) (f : ℕ → ℕ) → ((k : ℕ) → k < n → cond (m k) (f k) 0 ≡ cond (a k) (f k) 0 + cond (b k) (f k) 0) → sumOver n m f ≡ sumOver n a f + sumOver n b f
+unfolding over
+sum-parts zero m a b f h = refl
+sum-parts (suc n) m a b f h = omega (arith, sum-parts n m a b f (λ k l. h k (omega arith)), h n (le-refl (suc n)))
+
+module _ (C T J : ℕ → ℕ) (base w : ℕ) where
+  -- before a run there is no row of it
+  pub demand-start : (s e : ℕ) → demand s C T J base (run s e) w ≡ base
+  unfolding demand
+  demand-start s e = omega (arith, run-none _+_ 0 refl s e (load C T J w))
+
+  module _ (n s e : ℕ) (se : s ≤ e) (en : e ≤ n) where
+    apart : (x k : ℕ) → k < n → cond (outside s e k) x 0 ≡ cond (run 0 s k) x 0 + cond (run e n k) x 0
+    apart x k l = go (decLt k s) (decLt k e)
+      where
+        go : Dec (k < s) → Dec (k < e) → cond (outside s e k) x 0 ≡ cond (run 0 s k) x 0 + cond (run e n k) x 0
+        go (yes a) d = rw (lt-leb s k a, run-true 0 s k zero-le a, lt-leb e k (omega arith)) (omega arith)
+        go (no a) (yes b) = rw (run-true s e k (omega arith) b, le-leb 0 k zero-le, le-ltb k s (omega arith), lt-leb e k b) (omega arith)
+        go (no a) (no b) = rw (le-ltb k e (omega arith), le-leb s k (omega arith), le-leb 0 k zero-le, le-ltb k s (omega arith), run-true e n k (omega arith) l) (omega arith)
+
+    -- F of the rows around a run: from what those before it ask, what those behind it add
+    pub demand-around : demand n C T J (demand s C T J base (run 0 s) w) (run e n) w ≡ demand n C T J base (outside s e) w
+    unfolding demand
+    demand-around =
+        omega (
+          arith,
+          sum-parts n (outside s e) (run 0 s) (run e n) (load C T J w) (λ k. apart (load C T J w k) k),
+          run-beyond _+_ 0 refl 0 s (load C T J w) (λ a b c. omega arith) n (omega arith),
+        )
+
+    -- and no less than those before it ask
+    pub demand-before : demand s C T J base (run 0 s) w ≤ demand n C T J base (outside s e) w
+    demand-before = omega (arith, demand-around, demand-base n C T J (demand s C T J base (run 0 s) w) (run e n) w)
