@@ -137,8 +137,8 @@ module _ (n : ℕ) (c t j e key : List ℕ) where
             (verdict-is n c t j e key (k .state) next ca ta ja ea (in-front c ca (k .aligned .along-c)) (in-front t ta (k .aligned .along-t)) (in-front j ja (k .aligned .along-j)) (in-front e ea (k .aligned .along-e)) end ends v h)
 
         -- it is late: it is one more tried
-        pub tried-next : v ≡ Late → Tried τ (slice top n made) end (bands + 1)
-        tried-next q = tried-late τ (slice top n made) next end ends (verdict Late q)
+        pub tried-next : {bands′ : ℕ} → bands′ ≡ bands + 1 → v ≡ Late → Tried τ (slice top n made) end bands′
+        tried-next counted q = rw counted (tried-late τ (slice top n made) next end ends (verdict Late q))
 
         -- it passes: it is placed
         module _ {R below′ : ℕ} {made′ ca′ ta′ ja′ ea′ ka′ : List ℕ} (q : v ≡ Figure R) (longest : LongestIs ca s end below below′)
@@ -174,9 +174,9 @@ module _ (n : ℕ) (c t j e key : List ℕ) where
           along : (column : List ℕ) {ax ax′ : List ℕ} → Turned s end top ax ax′ → Along n column made ax → Along n column made′ ax′
           along column {ax} {ax′} = along-turned n s end top column made made′ ax ax′ se (r .within) (k .fits) (six .turned-made)
 
-          pub known-next : Known made′ ca′ ta′ ja′ ea′ ka′ (top - (end - s)) (tried + (bands + 1)) below′
-          known-next =
-              record {
+          pub known-next : {top′ tried′ : ℕ} → top′ ≡ top - (end - s) → tried′ ≡ tried + (bands + 1) → Known made′ ca′ ta′ ja′ ea′ ka′ top′ tried′ below′
+          known-next left counted =
+              rw (left, counted) (record {
                 long = omega (arith, k .long, six .turned-made .long);
                 fits = omega (arith, k .fits);
                 aligned =
@@ -192,4 +192,4 @@ module _ (n : ℕ) (c t j e key : List ℕ) where
                     (before-next n c t j e key (k .state) next (top - (end - s)) below′ (held .lengths .few) (omega (arith, ends))
                     (longest-now n c t j e key (k .state) next ca ta ja ea (in-front c ca (k .aligned .along-c)) (in-front t ta (k .aligned .along-t)) (in-front j ja (k .aligned .along-j)) (in-front e ea (k .aligned .along-e)) end ends longest)
                     (figure-fits _ _ _ (verdict (Figure R) q)));
-              }
+              })

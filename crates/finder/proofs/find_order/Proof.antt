@@ -76,7 +76,7 @@ places-again c =
     let i = c .before .before .before .before .before .before .before .before .before .before .before .before .before .before .before .before .before .before .before .before .before .before .before .before .before .loop .inv in
     let r = c .before .before .before .before .before .before .before .before .before .before .before .before .before .before .before .before .before .before .before .before .before .before .run-end .ensures in (
       (search needs, search needs, search needs, search needs, search needs, search needs),
-      known-next (a .n) (a .c .now) (a .t .now) (a .j .now) (a .e .now) (a .key .now) held (i .4) (omega arith) (i .2) r (c .before .before .before .before .before .before .before .before .before .before .before .before .before .before .before .before .before .judge-run .ensures) (c .before .before .before .before .before .before .before .before .before .before .before .before .before .before .before .enum-told .given .1) (c .before .before .before .before .before .before .before .before .before .before .before .before .before .longest-of .ensures) (c .before .before .before .before .before .before .turn-all .ensures),
+      known-next (a .n) (a .c .now) (a .t .now) (a .j .now) (a .e .now) (a .key .now) held (i .4) (omega arith) (i .2) r (c .before .before .before .before .before .before .before .before .before .before .before .before .before .before .before .before .before .judge-run .ensures) (c .before .before .before .before .before .before .before .before .before .before .before .before .before .before .before .enum-told .given .1) (c .before .before .before .before .before .before .before .before .before .before .before .before .before .longest-of .ensures) (c .before .before .before .before .before .before .turn-all .ensures) (omega arith) (omega arith),
     )
 
 loop-again : tie.Need-loop-again Inv-loop μ-loop Inv-places μ-places
@@ -85,7 +85,7 @@ loop-again c =
     let held = c .before .before .before .before .before .before .before .before .before .before .before .before .before .before .before .before .before .before .before .before .before .before .before .before .before .before .before .before .before .before .before .before .pre .0 in
     let i = c .before .before .before .before .before .before .before .before .before .before .loop .inv in
     let r = c .before .before .before .before .before .before .before .run-end .ensures in
-    (r .within, i .1, tried-next (a .n) (a .c .now) (a .t .now) (a .j .now) (a .e .now) (a .key .now) held (i .4) (omega arith) (i .2) r (c .before .before .judge-run .ensures) (c .enum-told2 .given .1), i .3, i .4)
+    (r .within, i .1, tried-next (a .n) (a .c .now) (a .t .now) (a .j .now) (a .e .now) (a .key .now) held (i .4) (omega arith) (i .2) r (c .before .before .judge-run .ensures) (omega arith) (c .enum-told2 .given .1), i .3, i .4)
 
 returns : tie.Need-returns Inv-loop μ-loop Inv-places μ-places
 returns c =
