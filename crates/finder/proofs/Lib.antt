@@ -1,4 +1,4 @@
-pub mod Stack
+pub mod Laying
 pub mod Turning
 pub mod Shifting
 pub mod Sorted

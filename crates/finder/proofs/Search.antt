@@ -1,6 +1,6 @@
 -- The search place by place: what is known before each place, that the verdict on the run of the band that comes next is the verdict that
 -- the placing rule asks for, and that each turn follows the rule. Assumes nothing.
-use Prim.Native.Nat.{ℕ, zero, suc, _+_, _-_, _*_, _≤_, _<_, max}
+use Prim.Native.Nat.{ℕ, _+_, _-_, _*_, _≤_, _<_, max}
 use native.Mathlib.Decide.{decLt}
 use native.Mathlib.Omega.{arith}
 use mathlib.Core.Path.{_≡_, refl, sym, ap, ap₂, subst, subst₂, _∙_}
@@ -12,9 +12,9 @@ use borrow.Author.Tests.{lt-ltb, le-ltb, le-leb, lt-leb, eq-eqb, ne-eqb}
 use Rattle.sums.specs.Masks.{Mask, except, run}
 use Rattle.sums.specs.MaskLaws.{same-test, and-left, and-intro}
 use Rattle.sums.specs.Columns.{at}
-use Rattle.sums.specs.Sums.{over, count, maxOver}
+use Rattle.sums.specs.Sums.{count, maxOver}
 use Rattle.sums.specs.Laws.{over-same, over-empty}
-use Rattle.sums.specs.Runs.{run-beyond}
+use Rattle.sums.specs.Runs.{run-beyond, over-parts}
 use Rattle.licence.specs.Limit.{limit}
 use Rattle.order.specs.Table.{Table, band, MIN, leastE, F}
 use Rattle.order.specs.Orders.{mem, NoRepeat}
@@ -40,9 +40,7 @@ cond-join false true x = omega arith
 cond-join false false x = omega arith
 
 max-join : (n : ℕ) (p q : Mask) (f : ℕ → ℕ) → maxOver n (λ k. p k || q k) f ≡ max (maxOver n q f) (maxOver n p f)
-unfolding over
-max-join zero p q f = omega arith
-max-join (suc n) p q f = omega (arith, max-join n p q f, cond-join (p n) (q n) (f n))
+max-join n p q f = over-parts max 0 refl (λ a b c d. omega arith) n (λ k. p k || q k) q p f (λ k l. cond-join (p k) (q k) (f k))
 
 -- a mask has, below n, the rows that its rising list has
 rising-rows : (n : ℕ) (m : Mask) (k : ℕ) → k < n → mem (rising n m) k ≡ m k

@@ -15,11 +15,11 @@ use Rattle.order.specs.Table.{Table, band, MIN, leastE, F}
 use Rattle.order.specs.Orders.{mem}
 use Rattle.order.specs.Lists.{mem-getD}
 use Rattle.order.specs.Figures.{figure-fits}
-use Rattle.order.specs.Sheet.{sheet, RunIn, RunVerdict, Stretch, LongestIs, VerdictIs}
+use Rattle.order.specs.Sheet.{sheet, Along, RunIn, RunVerdict, Stretch, LongestIs, VerdictIs}
 use Rattle.order.specs.declared.Verdict.{Verdict}
 use Rattle.order.specs.declared.Verdict.the-variants.{Figure, Late}
 use Rattle.intake.specs.Held.{Held}
-use Rattle.finder.specs.Steps.{byBand, firstRows, Along, RunEnds, turned, Turned, Aligned, SixTurned}
+use Rattle.finder.specs.Steps.{byBand, firstRows, RunEnds, turned, Turned, Aligned, SixTurned}
 use Rattle.finder.proofs.Turning.{turned-within, turned-after, front-now, back-now}
 use Rattle.finder.proofs.ByBand.{bandsOf}
 use Rattle.finder.proofs.Waiting.{Tried, Next, next-of, rows, tried-late}

@@ -10,6 +10,7 @@ use lib.Dec.{eqb, ltb}
 use Rattle.sums.specs.Masks.{Mask}
 use Rattle.sums.specs.Columns.{at}
 use Rattle.licence.specs.Limit.{limit}
+use Rattle.order.specs.Sheet.{Along}
 use Rattle.order.specs.Marks.{shownBefore}
 use Rattle.finder.specs.Placing.{rising}
 
@@ -34,10 +35,6 @@ byBand n key (k ∷ l) = rising n (λ i. eqb (key i) (key k)) ++ byBand n key l
 -- the first row of each band
 abbrev pub firstRows : (n : ℕ) (key : ℕ → ℕ) → List ℕ
 firstRows n key = rising n (λ k. not (shownBefore key k (key k)))
-
--- a column along the first n places of a list of rows
-abbrev pub Along : (n : ℕ) (column made along : List ℕ) → Type 0
-Along n column made along = (p : ℕ) → p < n → at along p ≡ at column (at made p)
 
 -- e is where the run of one key from place s on ends
 pub record RunEnds (key : List ℕ) (s top e : ℕ) : Type 0 where

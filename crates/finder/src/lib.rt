@@ -1,7 +1,7 @@
 // Finds a priority order: fills the lowest place first.
 ghost use mathlib.Core.Path.{_≡_};
 ghost use mathlib.Core.List.{_++_};
-ghost use Prim.Native.Nat.{ℕ, _+_, _≤_, _<_};
+ghost use Prim.Native.Nat.{_+_, _≤_, _<_};
 ghost use lib.ListN.{length, take, drop};
 ghost use Rattle.sums.specs.Columns.{at};
 ghost use Rattle.licence.specs.Limit.{limit};
@@ -9,19 +9,13 @@ ghost use Rattle.order.specs.Sheet.{sheet};
 ghost use Rattle.intake.specs.Held.{Keyed, Held};
 ghost use Rattle.finder.specs.Placing.{rising};
 ghost use Rattle.finder.specs.Searched.{findingAnswer, Answered, Searched};
-ghost use Rattle.finder.specs.Steps.{ownOf, Puts, byBand, firstRows, Along, RunEnds, Turned, Aligned, SixLong, SixTurned};
+ghost use Rattle.finder.specs.Steps.{ownOf, Puts, byBand, firstRows, RunEnds, Turned, Aligned, SixLong, SixTurned};
 
 // An order, or why there is none.
 pub enum Finding {
     // The number of bands tried.
     Found(u32),
     Refused(intake::Refusal),
-}
-
-fn index(x: u32) -> usize
-    ensures { λ r. ⌜ r ≡ x ⌝ }
-{
-    x as usize
 }
 
 // Writes the rows of the band of row k, its first, from place `end` on, and answers where they end.
@@ -50,25 +44,13 @@ fn line_up(n: usize, key: &[u32], made: &mut [u32])
     let mut end: usize = 0;
     let mut k: usize = 0;
     while k < n {
-        let band = index(key[k]);
+        let band = order::index(key[k]);
         let seen = used[band];
         used[band] = 1;
         if seen != 1 {
             end = put_band(n, key, k, made, end);
         }
         k += 1;
-    }
-}
-
-// Writes a column along the rows.
-fn put_along(n: usize, column: &[u32], made: &[u32], along: &mut [u32])
-    requires { ⌜ (n ≤ length (now column)) × (n ≤ length (now made)) × (n ≤ length (now along)) × ((p : ℕ) → p < n → at (now made) p < n) ⌝ }
-    ensures { λ r. ⌜ Along n (now (column .entry)) (now (made .entry)) (now (along .exit)) ⌝ }
-{
-    let mut p: usize = 0;
-    while p < n {
-        along[p] = column[index(made[p])];
-        p += 1;
     }
 }
 
@@ -144,11 +126,11 @@ fn arrange(
     ensures { λ r. ⌜ (take n (now (made .exit)) ≡ byBand n (at (now (key .entry))) (firstRows n (at (now (key .entry))))) × Aligned n (now (c .entry)) (now (t .entry)) (now (j .entry)) (now (e .entry)) (now (key .entry)) (now (made .exit)) (now (ca .exit)) (now (ta .exit)) (now (ja .exit)) (now (ea .exit)) (now (ka .exit)) ⌝ }
 {
     line_up(n, key, made);
-    put_along(n, c, made, ca);
-    put_along(n, t, made, ta);
-    put_along(n, j, made, ja);
-    put_along(n, e, made, ea);
-    put_along(n, key, made, ka);
+    order::put_along(n, c, made, ca);
+    order::put_along(n, t, made, ta);
+    order::put_along(n, j, made, ja);
+    order::put_along(n, e, made, ea);
+    order::put_along(n, key, made, ka);
 }
 
 // Puts the run behind in the rows and in every column.

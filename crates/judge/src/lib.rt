@@ -10,7 +10,7 @@ ghost use Rattle.order.specs.Marks.{Marked};
 ghost use Rattle.order.specs.Sheet.{sheet};
 ghost use Rattle.intake.specs.Held.{Keyed, Held};
 ghost use Rattle.judge.specs.Judged.{judgementAnswer, Written, Judged};
-ghost use Rattle.judge.specs.Walk.{placeOf, InRange, Sound, shownAs, zeroAt, Step, StepGives, OrderJudged};
+ghost use Rattle.judge.specs.Walk.{placeOf, InRange, Sound, shownAs, zeroAt, RunStarts, PutFor, Laid, FilledFrom, OrderJudged};
 
 // The answer to an order, or why it is refused.
 pub enum Judgement {
@@ -26,12 +26,6 @@ pub enum Found {
     Nowhere,
 }
 
-fn index(x: u32) -> usize
-    ensures { λ r. ⌜ r ≡ x ⌝ }
-{
-    x as usize
-}
-
 // The first position out of range or a repeat.
 fn first_bad_entry(order: &[u32], n: usize) -> Found
     requires { ⌜ (n ≤ limit) × (n ≤ length (now order)) ⌝ }
@@ -40,7 +34,7 @@ fn first_bad_entry(order: &[u32], n: usize) -> Found
     let mut used = [0u32; licence::LIMIT];
     let mut p: usize = 0;
     while p < n {
-        let m = index(order[p]);
+        let m = order::index(order[p]);
         if n <= m {
             return Found::At(p as u32);
         }
@@ -58,7 +52,7 @@ fn row_at(order: &[u32], n: usize, p: usize) -> usize
     requires { ⌜ InRange n (now order) × (p < n) ⌝ }
     ensures { λ r. ⌜ (r ≡ at (now (order .entry)) p) × (r < n) ⌝ }
 {
-    index(order[p])
+    order::index(order[p])
 }
 
 // The key of the band at place p.
@@ -82,7 +76,7 @@ fn resumes_at(key: &[u32], order: &[u32], n: usize, used: &[u32], p: usize) -> b
     ensures { λ r. ⌜ r ≡ resumes (at (now (key .entry))) (now (order .entry)) p ⌝ }
 {
     let k = key_at(key, order, n, p);
-    if used[index(k)] != 1 {
+    if used[order::index(k)] != 1 {
         return false;
     }
     key_at(key, order, n, place_before(p)) != k
@@ -99,7 +93,7 @@ fn first_split(key: &[u32], order: &[u32], n: usize) -> Found
         if resumes_at(key, order, n, &used, p) {
             return Found::At(p as u32);
         }
-        used[index(key_at(key, order, n, p))] = 1;
+        used[order::index(key_at(key, order, n, p))] = 1;
         p += 1;
     }
     Found::Nowhere
@@ -115,34 +109,59 @@ fn shown(v: order::Verdict) -> u32
     }
 }
 
-// What stands for the row at place p: that of the place before it if the band goes on, else the band is judged.
-fn figure_at(
-    n: usize,
-    c: &[u32],
-    e: &[u32],
-    key: &[u32],
-    order: &[u32],
-    before: &[u32],
-    figures: &[u32],
-    gc: &[u32],
-    gt: &[u32],
-    gj: &[u32],
-    p: usize,
-) -> u32
-    requires { ⌜ Step n (now c) (now e) (now key) (now order) (now before) (now figures) (now gc) (now gt) (now gj) p ⌝ }
-    ensures { λ r. ⌜ StepGives n (now (c .entry)) (now (e .entry)) (now (key .entry)) (now (order .entry)) (now (before .entry)) (now (figures .entry)) (now (gc .entry)) (now (gt .entry)) (now (gj .entry)) p r ⌝ }
+// Where the run of one key that ends before place e starts.
+fn run_start(key: &[u32], e: usize) -> usize
+    requires { ⌜ (0 < e) × (e ≤ length (now key)) ⌝ }
+    ensures { λ r. ⌜ RunStarts (now (key .entry)) e r ⌝ }
 {
-    let band = key_at(key, order, n, p);
-    if 0 < p {
-        let last = row_at(order, n, p - 1);
-        if key[last] == band {
-            return figures[last];
+    let mut s = e - 1;
+    while 0 < s {
+        if key[s - 1] != key[s] {
+            return s;
         }
+        s -= 1;
     }
-    shown(order::judge_band(n, c, e, key, before, band, p, gc, gt, gj))
+    s
 }
 
-// Writes what stands for each row, and gathers C, T and J of the rows passed: they are above those to come.
+// Writes what stands for the rows of the places s .. e - 1.
+fn put_for(order: &[u32], n: usize, s: usize, e: usize, figure: u32, figures: &mut [u32])
+    requires { ⌜ InRange n (now order) × (s ≤ e) × (e ≤ n) × (n ≤ length (now figures)) ⌝ }
+    ensures { λ r. ⌜ PutFor (now (order .entry)) s e figure (now (figures .entry)) (now (figures .exit)) ⌝ }
+{
+    let mut p = s;
+    while p < e {
+        figures[row_at(order, n, p)] = figure;
+        p += 1;
+    }
+}
+
+// Writes what stands for each row, from the lowest run up: the places before a run are above it.
+fn fill_runs(
+    n: usize,
+    c: &[u32],
+    t: &[u32],
+    j: &[u32],
+    a: &[u32],
+    key: &[u32],
+    order: &[u32],
+    figures: &mut [u32],
+)
+    requires { ⌜ Laid n (now c) (now t) (now j) (now a) (now key) (now order) × (n ≤ length (now figures)) ⌝ }
+    ensures { λ r. ⌜ FilledFrom n (now (c .entry)) (now (t .entry)) (now (j .entry)) (now (a .entry)) (now (key .entry)) (now (order .entry)) (now (figures .entry)) (now (figures .exit)) 0 ⌝ }
+{
+    let mut below: u32 = 0;
+    let mut e = n;
+    while 0 < e {
+        let s = run_start(key, e);
+        let figure = shown(order::judge_run(e, c, t, j, a, s, e, below));
+        put_for(order, n, s, e, figure, figures);
+        below = order::longest_of(c, s, e, below);
+        e = s;
+    }
+}
+
+// Writes what stands for each row, with the columns arranged along the order.
 fn fill(
     n: usize,
     c: &[u32],
@@ -156,20 +175,26 @@ fn fill(
     requires { ⌜ Held n (now c) (now t) (now j) (now e) (now key) × Sound n (sheet n (now c) (now t) (now j) (now e) (now key)) (now order) × (n ≤ length (now figures)) ⌝ }
     ensures { λ r. ⌜ Written (sheet n (now (c .entry)) (now (t .entry)) (now (j .entry)) (now (e .entry)) (now (key .entry))) (now (order .entry)) (now (figures .entry)) (now (figures .exit)) ⌝ }
 {
-    let mut before = [0u32; licence::LIMIT];
-    let mut gc = [0u32; licence::LIMIT];
-    let mut gt = [0u32; licence::LIMIT];
-    let mut gj = [0u32; licence::LIMIT];
-    let mut p: usize = 0;
-    while p < n {
-        let m = row_at(order, n, p);
-        figures[m] = figure_at(n, c, e, key, order, &before, figures, &gc, &gt, &gj, p);
-        before[m] = 1;
-        gc[p] = c[m];
-        gt[p] = t[m];
-        gj[p] = j[m];
-        p += 1;
-    }
+    let mut c_along = [0u32; licence::LIMIT];
+    let mut t_along = [0u32; licence::LIMIT];
+    let mut j_along = [0u32; licence::LIMIT];
+    let mut e_along = [0u32; licence::LIMIT];
+    let mut key_along = [0u32; licence::LIMIT];
+    order::put_along(n, c, order, &mut c_along);
+    order::put_along(n, t, order, &mut t_along);
+    order::put_along(n, j, order, &mut j_along);
+    order::put_along(n, e, order, &mut e_along);
+    order::put_along(n, key, order, &mut key_along);
+    fill_runs(
+        n,
+        &c_along,
+        &t_along,
+        &j_along,
+        &e_along,
+        &key_along,
+        order,
+        figures,
+    );
 }
 
 // The first position whose row has the figure 0.

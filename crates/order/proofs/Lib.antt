@@ -1,5 +1,3 @@
 -- Laws that the proofs of this crate cite. Assumes nothing.
-mod BandRows
-mod BandRuling
 mod Rows
 mod Ruling

@@ -13,4 +13,3 @@ pub mod Marks
 pub mod Along
 pub mod Arranged
 pub mod Runs
-pub mod Gathering

@@ -38,6 +38,16 @@ at-take (x ∷ l) zero j h k = absurd (omega arith)
 at-take (x ∷ l) (suc i) zero h k = mem-here x (take i l)
 at-take (x ∷ l) (suc i) (suc j) h k = mem-there x (take i l) (getD l j 0) (at-take l i j (le-of-suc-le-suc h) (le-of-suc-le-suc k))
 
+-- what stands before a place stands in the list, and not twice
+pub take-mem : (l : List ℕ) (i k : ℕ) → Is (mem (take i l) k) → Is (mem l k)
+take-mem l i k h = let r = take-at l i k h in subst (λ (y : ℕ). Is (mem l y)) (r .3) (mem-getD l (r .0) (r .2))
+
+pub no-repeat-take : (l : List ℕ) (i : ℕ) → NoRepeat l → NoRepeat (take i l)
+no-repeat-take [] zero p = tt
+no-repeat-take [] (suc i) p = tt
+no-repeat-take (x ∷ l) zero p = tt
+no-repeat-take (x ∷ l) (suc i) p = ((λ h. p .0 (take-mem l i x h)), no-repeat-take l i (p .1))
+
 -- a number of the list stands before a place, at it, or behind it
 pub mem-cut : (l : List ℕ) (j k : ℕ) → Is (mem l k) → Is (mem (take j l) k) ⊎ ((k ≡ getD l j 0) ⊎ Is (mem (drop (suc j) l) k))
 mem-cut l j k h = let r = mem-at l k h in go (r .0) (r .1) (r .2) (decLt (r .0) j) (decLt j (r .0))

@@ -25,10 +25,6 @@ module _ (op : ℕ → ℕ → ℕ) (z : ℕ) where
 
   -- ---- one row more, as a loop that counts k + 1 has it
 
-  pub over-none : (m : Mask) (f : ℕ → ℕ) → over op z 0 m f ≡ z
-  unfolding over
-  over-none m f = refl
-
   pub over-next : (k : ℕ) (m : Mask) (f : ℕ → ℕ) → over op z (k + 1) m f ≡ op (over op z k m f) (cond (m k) (f k) z)
   unfolding over
   over-next k m f = rw add-one

@@ -9,10 +9,6 @@ use lib.Dec.{leb, ltb}
 abbrev pub Mask : Type 0
 Mask = ℕ → Bool
 
--- all rows
-abbrev pub every : Mask
-every k = true
-
 -- the rows of m that are not in o
 abbrev pub except : Mask → Mask → Mask
 except m o k = m k && not (o k)

@@ -1,17 +1,17 @@
--- Runs of places: which places are of a run, what is put together over them place by place, and F of the rows around a run as two runs, the
--- one before it and the one behind it.
+-- Runs of places: which places are of a run, what is put together over them place by place, and two runs together: the greatest of
+-- a run and of the one behind it, and F of the rows around a run, those before it and those behind it.
 -- Assumes nothing.
-use Prim.Native.Nat.{ℕ, zero, suc, _+_, _≤_, _<_, zero-le}
+use Prim.Native.Nat.{ℕ, zero, suc, _+_, _≤_, _<_, max, zero-le}
 use native.Mathlib.Nat.{le-refl}
 use native.Mathlib.Decide.{decLt}
 use native.Mathlib.Omega.{arith}
-use mathlib.Core.Path.{_≡_, refl, ap, _∙_}
+use mathlib.Core.Path.{_≡_, refl, ap, ap₂, _∙_}
 use mathlib.Core.Bool.{Bool, true, cond}
 use lib.Dec.{T as Is, leb, ltb, leb→le, le→leb, ltb→lt, lt→ltb}
 use borrow.Author.Tests.{le-leb, lt-leb, le-ltb}
 use Rattle.sums.specs.Masks.{Mask, run, outside}
 use Rattle.sums.specs.MaskLaws.{is-true, and-left, and-right, and-intro}
-use Rattle.sums.specs.Sums.{over, sumOver, load, demand}
+use Rattle.sums.specs.Sums.{over, maxOver, load, demand}
 use Rattle.sums.specs.Laws.{over-empty, over-next, over-beyond, demand-base}
 
 module _ (s e p : ℕ) where
@@ -38,11 +38,23 @@ module _ (op : ℕ → ℕ → ℕ) (z : ℕ) (zz : op z z ≡ z) (s e : ℕ) (f
   pub run-beyond : ((a b c : ℕ) → op (op a b) c ≡ op (op a c) b) → (n : ℕ) → e ≤ n → over op z n (run s e) f ≡ over op z e (run s e) f
   run-beyond swap n l = over-beyond op z zz swap e n (run s e) f l (λ k b i h. omega (arith, run-to s e k h))
 
--- a sum over the rows of two masks that have none in common
-sum-parts : (n : ℕ) (m a b : Mask) (f : ℕ → ℕ) → ((k : ℕ) → k < n → cond (m k) (f k) 0 ≡ cond (a k) (f k) 0 + cond (b k) (f k) 0) → sumOver n m f ≡ sumOver n a f + sumOver n b f
+-- over a mask that is two others together
+pub over-parts : (op : ℕ → ℕ → ℕ) (z : ℕ) → z ≡ op z z → ((a b c d : ℕ) → op (op a b) (op c d) ≡ op (op a c) (op b d)) → (n : ℕ) (m x y : Mask) (f : ℕ → ℕ)
+    → ((k : ℕ) → k < n → cond (m k) (f k) z ≡ op (cond (x k) (f k) z) (cond (y k) (f k) z)) → over op z n m f ≡ op (over op z n x f) (over op z n y f)
 unfolding over
-sum-parts zero m a b f h = refl
-sum-parts (suc n) m a b f h = omega (arith, sum-parts n m a b f (λ k l. h k (omega arith)), h n (le-refl (suc n)))
+over-parts op z zz mix zero m x y f h = zz
+over-parts op z zz mix (suc n) m x y f h = ap₂ op (over-parts op z zz mix n m x y f (λ k l. h k (omega arith))) (h n (le-refl (suc n))) ∙ mix _ _ _ _
+
+-- the greatest of a run and of the one behind it
+pub max-join : (s e n : ℕ) (f : ℕ → ℕ) → s ≤ e → e ≤ n → maxOver n (run s n) f ≡ max (maxOver n (run e n) f) (maxOver e (run s e) f)
+max-join s e n f se en =
+    over-parts max 0 refl (λ a b c d. omega arith) n (run s n) (run e n) (run s e) f (λ k l. go k l (decLt k s) (decLt k e))
+    ∙ ap (max (maxOver n (run e n) f)) (run-beyond max 0 refl s e f (λ a b c. omega arith) n en)
+  where
+    go : (k : ℕ) → k < n → Dec (k < s) → Dec (k < e) → cond (run s n k) (f k) 0 ≡ max (cond (run e n k) (f k) 0) (cond (run s e k) (f k) 0)
+    go k l (yes a) d = rw (lt-leb s k a, lt-leb e k (omega arith))
+    go k l (no a) (yes b) = rw (run-true s n k (omega arith) l, lt-leb e k b, run-true s e k (omega arith) b) (omega arith)
+    go k l (no a) (no b) = rw (run-true s n k (omega arith) l, run-true e n k (omega arith) l, le-leb s k (omega arith), le-ltb k e (omega arith)) (omega arith)
 
 module _ (C T J : ℕ → ℕ) (base w : ℕ) where
   -- before a run there is no row of it
@@ -65,7 +77,7 @@ module _ (C T J : ℕ → ℕ) (base w : ℕ) where
     demand-around =
         omega (
           arith,
-          sum-parts n (outside s e) (run 0 s) (run e n) (load C T J w) (λ k. apart (load C T J w k) k),
+          over-parts _+_ 0 refl (λ a b c d. omega arith) n (outside s e) (run 0 s) (run e n) (load C T J w) (λ k. apart (load C T J w k) k),
           run-beyond _+_ 0 refl 0 s (load C T J w) (λ a b c. omega arith) n (omega arith),
         )
 

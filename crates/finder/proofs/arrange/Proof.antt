@@ -21,31 +21,31 @@ put-along-requires : tie.Need-put-along-requires
 put-along-requires c κs =
     let p = c .before .before .before .before .before .before .before .before .before .before .before .before .before .before .before .before .before .pre in
     let m = made (c .before .before .before .before) in
-    (omega (arith, p .0 .rates .long-c), m .0, p .1 .long-c, m .1)
+    record { long-column = omega (arith, p .0 .rates .long-c); long-order = m .0; long-room = p .1 .long-c; range = m .1 }
 
 put-along-requires-2 : tie.Need-put-along-requires-2
 put-along-requires-2 c κs =
     let p = c .before .before .before .before .before .before .before .before .before .before .before .before .before .before .before .before .before .before .before .before .before .before .pre in
     let m = made (c .before .before .before .before .before .before .before .before .before) in
-    (omega (arith, p .0 .rates .long-t), m .0, p .1 .long-t, m .1)
+    record { long-column = omega (arith, p .0 .rates .long-t); long-order = m .0; long-room = p .1 .long-t; range = m .1 }
 
 put-along-requires-3 : tie.Need-put-along-requires-3
 put-along-requires-3 c κs =
     let p = c .before .before .before .before .before .before .before .before .before .before .before .before .before .before .before .before .before .before .before .before .before .before .before .before .before .before .before .pre in
     let m = made (c .before .before .before .before .before .before .before .before .before .before .before .before .before .before) in
-    (omega (arith, p .0 .rates .long-j), m .0, p .1 .long-j, m .1)
+    record { long-column = omega (arith, p .0 .rates .long-j); long-order = m .0; long-room = p .1 .long-j; range = m .1 }
 
 put-along-requires-4 : tie.Need-put-along-requires-4
 put-along-requires-4 c κs =
     let p = c .before .before .before .before .before .before .before .before .before .before .before .before .before .before .before .before .before .before .before .before .before .before .before .before .before .before .before .before .before .before .before .before .pre in
     let m = made (c .before .before .before .before .before .before .before .before .before .before .before .before .before .before .before .before .before .before .before) in
-    (omega (arith, p .0 .lengths .long-e), m .0, p .1 .long-e, m .1)
+    record { long-column = omega (arith, p .0 .lengths .long-e); long-order = m .0; long-room = p .1 .long-e; range = m .1 }
 
 put-along-requires-5 : tie.Need-put-along-requires-5
 put-along-requires-5 c κs =
     let p = c .before .before .before .before .before .before .before .before .before .before .before .before .before .before .before .before .before .before .before .before .before .before .before .before .before .before .before .before .before .before .before .before .before .before .before .before .before .pre in
     let m = made (c .before .before .before .before .before .before .before .before .before .before .before .before .before .before .before .before .before .before .before .before .before .before .before .before) in
-    (omega (arith, p .0 .keys .long-key), m .0, p .1 .long-key, m .1)
+    record { long-column = omega (arith, p .0 .keys .long-key); long-order = m .0; long-room = p .1 .long-key; range = m .1 }
 
 pub arrange-spec : {M : Type 1} → statement M
 arrange-spec =

@@ -6,7 +6,7 @@ use mathlib.Core.Path.{_≡_, refl, ap, _∙_}
 use mathlib.Core.List.{List, _++_}
 use lib.ListN.{length, set, take, drop}
 use Rattle.sums.specs.Columns.{at}
-use Rattle.finder.proofs.Stack.{laid-next, laid-length}
+use Rattle.finder.proofs.Laying.{laid-next, laid-length}
 use Rattle.finder.proofs.lay.Statement.{statement}
 use Rattle.finder.proofs.lay.Tie as tie
 
