@@ -1,4 +1,6 @@
-// Finds a priority order: fills the lowest place first.
+// Finds a priority order. The rows stand in one list, `made`: before place `top` those not placed, band by band, so that the runs of one key
+// there are the bands to try in their order; from there on those placed, highest first. The columns stand along it, so that a verdict is on a run
+// of places and looks for nothing.
 ghost use mathlib.Core.Path.{_≡_};
 ghost use mathlib.Core.List.{_++_};
 ghost use Prim.Native.Nat.{_+_, _≤_, _<_};
@@ -133,7 +135,7 @@ fn arrange(
     order::put_along(n, key, made, ka);
 }
 
-// Puts the run behind in the rows and in every column.
+// Puts the places s to e - 1 behind in the rows and in every column.
 fn turn_all(
     made: &mut [u32],
     c: &mut [u32],
@@ -156,7 +158,7 @@ fn turn_all(
     turn(key, s, e, top);
 }
 
-// Finds an order over a table in columns: the rows not placed stand before place `top` of `made`, those placed from there on.
+// Finds an order over a table in columns: fills the lowest place first. `below` is the longest C of the rows placed.
 fn find_order(
     n: usize,
     c: &[u32],
