@@ -55,8 +55,8 @@ typedef struct telhavina_reply {
  * Each list is a pointer, aligned and not null, and then its length in words; of a list of length 0 nothing is read. The
  * list of figures may overlap neither of the others.
  *
- * The figure of a row is the longest time from queuing to wholly sent; a row is late where no figure is within D - J (for a
- * row of a FIFO, within the least D - J of its queue).
+ * The figure of a row is a time from queuing within which it is wholly sent, the least that the published equations allow; a
+ * row is late where they allow none within D - J (for a row of a FIFO, within the least D - J of its queue).
  */
 telhavina_reply telhavina_judge(const uint32_t *table, size_t table_len,
                                 const uint32_t *order, size_t order_len,

@@ -198,7 +198,7 @@ module _ (n : ℕ) (c t j e key : List ℕ) where
             longest = longest;
             few-tried = omega (arith, b .few-tried, some-rows, lengths, few-bands);
             leads-here =
-                λ r f. b .leads-here r (place (x .row) l (to-try τ placed x (x .row) (rising-intro n (unplaced τ placed) (x .row) l free-band), passes) (none-sooner τ placed x)
+                λ r f. b .leads-here r (place (x .row) l (to-try τ placed x (x .row) (rising-intro n (unplaced τ placed) (x .row) l free-band), passes) (λ i l. none-sooner τ placed x i (omega arith))
                 (subst (λ (y : ℕ). Finds τ free (placing τ placed (x .row)) y r) (omega (arith, counted-before τ placed x)) f));
           }
         where

@@ -1,10 +1,10 @@
 -- What follows from the statement of finding: it leaves room for a single outcome, what is found is an order that passes, 'no order' is said
--- exactly where there is none, and how many bands are tried. The promises come first, their proofs below.
+-- exactly where there is none, and at most how many bands are tried. The promises come first, their proofs below.
 -- Assumes nothing.
 use Prim.Native.Nat.{ℕ, suc, _*_, _≤_, _<_}
 use native.Mathlib.Omega.{arith}
 use mathlib.Core.Path.{_≡_, refl, sym, ap, _∙_, subst}
-use mathlib.Core.Logic.{_↔_}
+use mathlib.Core.Logic.{_⊎_, inl, inr, _↔_}
 use mathlib.Core.Bool.{cond}
 use mathlib.Core.List.{List, [], _++_}
 use lib.ListN.{length, drop}
@@ -12,7 +12,7 @@ use lib.Dec.{eqb, lit≤}
 use Rattle.sums.specs.Sums.{count}
 use Rattle.licence.specs.Laws.{row-allowed}
 use Rattle.order.specs.Table.{Table}
-use Rattle.order.specs.Orders.{Order, Together, AllPass}
+use Rattle.order.specs.Orders.{Order, Together, AllPass, Ranked}
 use Rattle.order.specs.Counting.{order-length}
 use Rattle.intake.specs.Words.{rows, tableOf}
 use Rattle.intake.specs.Answer.{Answer, Check, refused, fine}
@@ -20,7 +20,6 @@ use Rattle.intake.specs.Refusals.{tableRefusal}
 use Rattle.intake.specs.Laws.{accepted}
 use Rattle.intake.specs.Told.{toldRefusal, told-refusal, not-refusal, number-small, table-small}
 use Rattle.finder.specs.Placing.{Ending, found, none, leads, free, Finds}
-use Rattle.finder.specs.Standing.{Ranked}
 use Rattle.finder.specs.Right.{Right, finds-one, finds-right}
 use Rattle.finder.specs.Tried.{TriedWithin, tried-bound}
 use Rattle.finder.specs.Searched.{findingAnswer, Told, Searched}
@@ -42,7 +41,7 @@ OneFinding = (words before after after′ : List ℕ) (r r′ : Finding)
 pub record FoundOrder (words before after : List ℕ) : Type 0 where
   pub unrefused : tableRefusal words (length before) ≡ fine
   pub found : List ℕ
-  pub count : length found ≡ rows words
+  pub long : length found ≡ rows words
   pub laid : after ≡ found ++ drop (rows words) before
   pub order : Order (tableOf words) found
   pub together : Together (tableOf words) found
@@ -54,15 +53,26 @@ abbrev pub FoundMeans : Type 0
 FoundMeans = (words before after : List ℕ) (a : Answer) → Searched words before after a
     → a .number ≡ 102 → FoundOrder words before after
 
+-- Of a table that no check refuses, 'found' is said exactly where an order that keeps queues together passes.
+abbrev pub FoundExactly : Type 0
+FoundExactly = (words before after : List ℕ) (a : Answer) → Searched words before after a → tableRefusal words (length before) ≡ fine
+    → (a .number ≡ 102) ↔ ((o : List ℕ) × Order (tableOf words) o × Together (tableOf words) o × AllPass (tableOf words) o)
+
 -- Of a table that no check refuses, 'no order' is said exactly where no order that keeps queues together passes.
 abbrev pub NoOrderExactly : Type 0
 NoOrderExactly = (words before after : List ℕ) (a : Answer) → Searched words before after a → tableRefusal words (length before) ≡ fine
     → (a .number ≡ 8) ↔ ((o : List ℕ) → Order (tableOf words) o → Together (tableOf words) o → AllPass (tableOf words) o → ⊥)
 
--- And then no order passes at all, whether it keeps queues together or not.
+-- And then no order passes at all, whether it keeps queues together or not. (Where a queue is split, it is taken whole at each of its places,
+-- with the same sums.)
 abbrev pub NoOrderAtAll : Type 0
 NoOrderAtAll = (words before after : List ℕ) (a : Answer) → Searched words before after a
     → a .number ≡ 8 → (o : List ℕ) → Order (tableOf words) o → AllPass (tableOf words) o → ⊥
+
+-- Nothing is replied but found, 'no order', and the refusals 1 to 4.
+abbrev pub NoOtherReply : Type 0
+NoOtherReply = (words before after : List ℕ) (a : Answer) → Searched words before after a
+    → (a .number ≡ 102) ⊎ ((a .number ≡ 8) ⊎ (a .number ≤ 4))
 
 -- the number of bands
 abbrev pub bands : Table → ℕ
@@ -75,8 +85,7 @@ pub record Tried (τ : Table) (a : Answer) : Type 0 where
   pub unplaced : a .number ≡ 8 → (1 ≤ a .first) × (a .first ≤ bands τ)
 
 abbrev pub TriedAtMost : Type 0
-TriedAtMost = (words before after : List ℕ) (a : Answer) → Searched words before after a
-    → tableRefusal words (length before) ≡ fine → Tried (tableOf words) a
+TriedAtMost = (words before after : List ℕ) (a : Answer) → Searched words before after a → Tried (tableOf words) a
 
 -- ---- a table that no check refuses
 
@@ -137,7 +146,7 @@ found-means words before after a s is-102 =
         record {
           unrefused = e;
           found = o;
-          count = long;
+          long = long;
           laid = subst (λ (n : ℕ). after ≡ o ++ drop n before) long (says .1);
           order = right .order;
           together = right .together;
@@ -166,11 +175,39 @@ no-order-exactly words before after a s e =
     go (found o t) says right no-order = absurd (no-order o (right .order) (right .together) (right .passing))
     go (none u t) says right no-order = ap (λ (x : Answer). x .number) (says .0)
 
+pub found-exactly : FoundExactly
+found-exactly words before after a s e =
+    let x = s .answering e in (
+      (λ is-102. let f = found-means words before after a s is-102 in (f .found, f .order, f .together, f .passing)),
+      (λ (o, order, together, passing). go (x .ending) (x .told) (ends-right words (length before) e (x .follows)) o order passing),
+    )
+  where
+    go : (r : Ending) → Told r before after a → Right (tableOf words) free r → (o : List ℕ) → Order (tableOf words) o → AllPass (tableOf words) o → a .number ≡ 102
+    go (found _ t) says right o order passing = ap (λ (x : Answer). x .number) (says .0)
+    go (none u t) says right o order passing = absurd (right o order passing (λ p l. tt))
+
+pub no-other-reply : NoOtherReply
+no-other-reply words before after a s = go (tableRefusal words (length before)) refl
+  where
+    ends : (r : Ending) → Told r before after a → (a .number ≡ 102) ⊎ ((a .number ≡ 8) ⊎ (a .number ≤ 4))
+    ends (found o t) says = inl (ap (λ (x : Answer). x .number) (says .0))
+    ends (none u t) says = inr (inl (ap (λ (x : Answer). x .number) (says .0)))
+
+    go : (c : Check) → tableRefusal words (length before) ≡ c → (a .number ≡ 102) ⊎ ((a .number ≡ 8) ⊎ (a .number ≤ 4))
+    go (refused r) e = inr (inr (omega (arith, number-small (table-small words (length before)) e, ap (λ (x : Answer). x .number) (s .refusing r e .0))))
+    go fine e = let x = s .answering e in ends (x .ending) (x .told)
+
 pub tried-at-most : TriedAtMost
-tried-at-most words before after a s e =
-    let x = s .answering e in
-    go (x .ending) (x .told) (tried-bound (tableOf words) free (x .follows))
+tried-at-most words before after a s =
+    record {
+      finding = λ q. all (unrefused words before after a s (omega arith)) .finding q;
+      stopping = λ q. all (unrefused words before after a s (omega arith)) .stopping q;
+      unplaced = λ q. all (unrefused words before after a s (omega arith)) .unplaced q;
+    }
   where
     go : (r : Ending) → Told r before after a → TriedWithin (tableOf words) (bands (tableOf words) * suc (bands (tableOf words))) r → Tried (tableOf words) a
     go (found o t) says h = rw (says .0) (record { finding = λ _. h; stopping = λ q. absurd (omega arith); unplaced = λ q. absurd (omega arith) })
     go (none u t) says h = rw (says .0) (record { finding = λ q. absurd (omega arith); stopping = λ _. h .0; unplaced = λ _. (h .1, h .2) })
+
+    all : tableRefusal words (length before) ≡ fine → Tried (tableOf words) a
+    all e = let x = s .answering e in go (x .ending) (x .told) (tried-bound (tableOf words) free (x .follows))

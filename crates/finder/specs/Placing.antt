@@ -5,11 +5,10 @@ use Prim.Native.Nat.{ℕ, zero, suc, _+_, _<_}
 use mathlib.Core.Bool.{Bool, true, not, cond, _&&_}
 use mathlib.Core.List.{List, [], _∷_, _++_}
 use lib.Dec.{T as Is}
-use Rattle.sums.specs.Masks.{Mask, except, anyBelow}
+use Rattle.sums.specs.Masks.{Mask, except, anyBelow, None}
 use Rattle.sums.specs.Sums.{count}
 use Rattle.order.specs.Table.{Table, band, Passes}
 use Rattle.order.specs.Orders.{mem}
-use Rattle.order.specs.Split.{None}
 
 -- how finding ends: with the order, highest priority first, and how many bands were tried; or with how many are unplaced, and how many were
 -- tried
@@ -60,9 +59,9 @@ module _ (τ : Table) (may : Test) where
   pub data Finds : (placed : List ℕ) (tried : ℕ) → Ending → Type 0 where
     -- no band is unplaced
     done : {placed : List ℕ} {t : ℕ} → None (τ .n) (unplaced τ placed) → Finds placed t (found placed t)
-    -- the band of row k is the first that passes: it is placed, and one more is tried than there are before it
+    -- the band of row k is the first that passes: it is placed, and one more is tried than there are to try before it
     place : {placed : List ℕ} {t : ℕ} {r : Ending} (k : ℕ) → k < τ .n → Stands placed k → ((i : ℕ) → i < k → Stands placed i → ⊥)
         → Finds (placing τ placed k) (t + suc (count k (candidate placed))) r → Finds placed t r
-    -- a band is unplaced, and none passes: all are tried
+    -- a band is unplaced, and none of those to try passes: all of them are tried
     stuck : {placed : List ℕ} {t : ℕ} (u : ℕ) → u < τ .n → Is (unplaced τ placed u) → ((k : ℕ) → k < τ .n → Stands placed k → ⊥)
         → Finds placed t (none (count (τ .n) (unplaced τ placed)) (t + count (τ .n) (candidate placed)))

@@ -15,7 +15,7 @@ use Rattle.sums.specs.Sums.{count}
 use Rattle.sums.specs.Columns.{at}
 use Rattle.sums.specs.Move.{Moved}
 use Rattle.order.specs.Table.{Table, band}
-use Rattle.order.specs.Orders.{mem, Order, keyAt, Together, own, AllPass}
+use Rattle.order.specs.Orders.{mem, Order, keyAt, Together, Ranked, own, AllPass}
 use Rattle.order.specs.Lists.{mem-here, mem-there, mem-getD}
 use Rattle.order.specs.Places.{mem-cut, no-repeat-cut, from-last}
 use Rattle.order.specs.Bands.{not-band}
@@ -23,7 +23,7 @@ use Rattle.order.specs.Moving.{passes-moved}
 use Rattle.finder.specs.Placing.{Ending, found, none, rising, unplaced, placing, PassesOver, Test, candidate, Stands, Finds, done, place, stuck}
 use Rattle.finder.specs.Rising.{mem-right, mem-append}
 use Rattle.finder.specs.Leading.{band-rows-elim, unplaced-out, candidate-unplaced}
-use Rattle.finder.specs.Standing.{Ranked, Standing, standing-none, standing-next, unplaced-of, all-placed}
+use Rattle.finder.specs.Standing.{Standing, standing-none, standing-next, unplaced-of, all-placed}
 
 -- what may stand above some rows may stand above more
 abbrev pub Monotone : Test → Type 0

@@ -9,6 +9,7 @@ use Rattle.intake.specs.Words.{tableOf}
 use Rattle.intake.specs.Answer.{Answer, answer, refusalAnswer, Replied}
 use Rattle.intake.specs.Refusals.{tableRefusal}
 use Rattle.finder.specs.Placing.{Ending, found, none, free, Finds}
+use Rattle.intake.specs.declared.Refusal.the-variants.{NoOrder}
 use Rattle.finder.specs.declared.Finding.{Finding}
 use Rattle.finder.specs.declared.Finding.the-variants.{Found, Refused}
 
@@ -19,8 +20,8 @@ findingAnswer (Refused r) = refusalAnswer r
 
 -- an order found stands in the first places of the lent list, and what stood behind them stays; with none the list is untouched
 abbrev pub Told : Ending → (before after : List ℕ) (a : Answer) → Type 0
-Told (found order tried) before after a = (a ≡ answer 102 tried 0) × (after ≡ order ++ drop (length order) before)
-Told (none unplaced tried) before after a = (a ≡ answer 8 unplaced tried) × (after ≡ before)
+Told (found order tried) before after a = (a ≡ findingAnswer (Found tried)) × (after ≡ order ++ drop (length order) before)
+Told (none unplaced tried) before after a = (a ≡ refusalAnswer (NoOrder unplaced tried)) × (after ≡ before)
 
 -- a table that no check refuses: from no row placed and none tried, the rule ends so, and that is told
 pub record Answered (τ : Table) (before after : List ℕ) (a : Answer) : Type 0 where

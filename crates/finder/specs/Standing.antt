@@ -10,20 +10,15 @@ use mathlib.Core.Bool.{not}
 use mathlib.Core.List.{List, [], _++_}
 use lib.ListN.{length, length-append}
 use lib.Dec.{T as Is, T-not}
-use Rattle.sums.specs.Masks.{Mask}
+use Rattle.sums.specs.Masks.{Mask, None}
 use Rattle.sums.specs.Columns.{at}
 use Rattle.sums.specs.MaskLaws.{which}
 use Rattle.order.specs.Table.{Table, band}
-use Rattle.order.specs.Orders.{mem, NoRepeat, Order, keyAt, Together}
+use Rattle.order.specs.Orders.{mem, NoRepeat, Order, keyAt, Together, Ranked}
 use Rattle.order.specs.Lists.{mem-nil, mem-getD}
-use Rattle.order.specs.Split.{None}
 use Rattle.finder.specs.Placing.{rising, unplaced, placing}
 use Rattle.finder.specs.Rising.{mem-left, mem-right, mem-append, at-left, at-right, pairs-append, no-repeat-append, rising-rises, rising-once}
 use Rattle.finder.specs.Leading.{leader, band-rows-elim, band-rows-intro, unplaced-intro, unplaced-out}
-
--- rows of one band stand in rising row number
-abbrev pub Ranked : Table → List ℕ → Type 0
-Ranked τ o = (a b : ℕ) → a < b → b < length o → keyAt τ o a ≡ keyAt τ o b → at o a < at o b
 
 pub record Standing (τ : Table) (placed : List ℕ) : Type 0 where
   pub range : (k : ℕ) → Is (mem placed k) → k < τ .n

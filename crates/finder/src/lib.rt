@@ -13,7 +13,7 @@ ghost use Rattle.finder.specs.Placing.{rising};
 ghost use Rattle.finder.specs.Searched.{findingAnswer, Answered, Searched};
 ghost use Rattle.finder.specs.Steps.{ownOf, Puts, byBand, firstRows, RunEnds, Turned, Aligned, SixLong, SixTurned};
 
-// An order, or why there is none.
+// That an order was found, or why none is given.
 pub enum Finding {
     // The number of bands tried.
     Found(u32),

@@ -7,12 +7,12 @@ use mathlib.Core.Path.{_≡_, refl, sym, ap, subst, _∙_}
 use mathlib.Core.List.{List}
 use lib.ListN.{length, set, length-set}
 use lib.Seq.{getD-set-same, getD-set-other}
-use Rattle.sums.specs.Masks.{run}
+use Rattle.sums.specs.Masks.{run, None}
 use Rattle.sums.specs.Sums.{maxOver}
 use Rattle.sums.specs.Columns.{at}
 use Rattle.order.specs.Table.{Table}
 use Rattle.order.specs.Orders.{badEntry}
-use Rattle.order.specs.Split.{None, entry-range, entry-new}
+use Rattle.order.specs.Split.{entry-range, entry-new}
 use Rattle.order.specs.Sheet.{sheet, AlongIn, Along, RunVerdict}
 use Rattle.order.specs.declared.Verdict.{Verdict}
 use Rattle.intake.specs.Held.{Held}

@@ -10,13 +10,13 @@ use mathlib.Core.List.{List}
 use lib.ListN.{length}
 use lib.Dec.{T as Is, eqb, eqb→eq, leb, leb→le}
 use borrow.Author.Tests.{eq-eqb, eqb-true, not-false}
-use Rattle.sums.specs.Masks.{anyBelow, lowest}
+use Rattle.sums.specs.Masks.{anyBelow, lowest, None}
 use Rattle.sums.specs.MaskLaws.{or-cases, any-elim, lowest-none, none-lowest}
 use Rattle.sums.specs.Columns.{at}
 use Rattle.licence.specs.Laws.{row-allowed}
 use Rattle.order.specs.Orders.{badEntry, resumes, Order, Together}
 use Rattle.order.specs.Lists.{mem-getD, mem-at, one-place}
-use Rattle.order.specs.Split.{None, order-of, together-of, fine-of}
+use Rattle.order.specs.Split.{order-of, together-of, fine-of}
 use Rattle.intake.specs.Words.{rows, badRow, tableOf}
 use Rattle.intake.specs.Answer.{answer, fine, refuseIf, refuseAt}
 use Rattle.intake.specs.Refusals.{tableRefusal}

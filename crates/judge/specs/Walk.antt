@@ -5,13 +5,12 @@ use mathlib.Core.Path.{_≡_}
 use mathlib.Core.List.{List}
 use lib.ListN.{length}
 use lib.Dec.{eqb}
-use Rattle.sums.specs.Masks.{Mask, run, Place, at, nowhere}
+use Rattle.sums.specs.Masks.{Mask, run, Place, at, nowhere, None}
 use Rattle.sums.specs.Sums.{maxOver}
 use Rattle.sums.specs.Columns.{Columns, at as entry}
 use Rattle.licence.specs.Limit.{limit}
 use Rattle.order.specs.Table.{Table}
 use Rattle.order.specs.Orders.{badEntry, Together}
-use Rattle.order.specs.Split.{None}
 use Rattle.order.specs.Sheet.{Lengths, RunVerdict}
 use Rattle.intake.specs.Answer.{Answer, Replied}
 use Rattle.judge.specs.Judged.{orderRefusal, Answered}

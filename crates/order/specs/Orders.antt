@@ -45,6 +45,10 @@ module _ (τ : Table) where
   abbrev pub Together : List ℕ → Type 0
   Together o = (a b c : ℕ) → a < b → b < c → c < length o → keyAt o a ≡ keyAt o c → keyAt o b ≡ keyAt o a
 
+  -- rows of one band stand in rising row number
+  abbrev pub Ranked : List ℕ → Type 0
+  Ranked o = (a b : ℕ) → a < b → b < length o → keyAt o a ≡ keyAt o b → at o a < at o b
+
   -- the rows of the band at place p; those above it, and those below it
   abbrev pub own : List ℕ → ℕ → Mask
   own o p = band τ (keyAt o p)

@@ -10,17 +10,13 @@ use mathlib.Core.List.{List}
 use mathlib.Core.Bool.{not}
 use lib.ListN.{length}
 use lib.Dec.{T as Is, eqb, leb, le→leb, eqb→eq, eqb-refl, T-not, not-T}
-use Rattle.sums.specs.Masks.{Mask, anyBelow}
+use Rattle.sums.specs.Masks.{Mask, anyBelow, None}
 use Rattle.sums.specs.MaskLaws.{or-left, or-right, and-intro, and-left, and-right, any-intro, any-elim}
 use Rattle.sums.specs.Columns.{at}
 use Rattle.order.specs.Table.{Table}
 use Rattle.order.specs.Orders.{mem, badEntry, Order, keyAt, resumes, Together}
 use Rattle.order.specs.Lists.{mem-at, no-repeat}
 use Rattle.order.specs.Counting.{order-of-length}
-
--- no number below n passes the test
-abbrev pub None : ℕ → Mask → Type 0
-None n p = (k : ℕ) → k < n → Is (p k) → ⊥
 
 eqb-of : {a b : ℕ} → a ≡ b → Is (eqb a b)
 eqb-of {a} {b} e = subst (λ (x : ℕ). Is (eqb a x)) e (eqb-refl a)

@@ -26,13 +26,13 @@ NoneIsPassed = (words before after order figures figures′ : List ℕ) (a judge
 
 -- the first n places of the lent list are the order found
 found-there : {words before after : List ℕ} (x : FoundOrder words before after) → take (rows words) after ≡ x .found
-found-there {words} {before} x = ap (take (rows words)) (x .laid) ∙ take-at (x .found) (drop (rows words) before) (rows words) (x .count)
+found-there {words} {before} x = ap (take (rows words)) (x .laid) ∙ take-at (x .found) (drop (rows words) before) (rows words) (x .long)
 
 pub found-is-passed : FoundIsPassed
 found-is-passed words before after figures figures′ a judged s is-102 room j =
     let x = found-means words before after a s is-102 in
     let ok = accepted words (length before) (x .unrefused) in
-    let known : Fine words (x .found) (length figures) = record { accepted = record { whole = ok .whole; few = ok .few; good = ok .good; roomy = room }; count = x .count; order = x .order; together = x .together } in
+    let known : Fine words (x .found) (length figures) = record { accepted = record { whole = ok .whole; few = ok .few; good = ok .good; roomy = room }; count = x .long; order = x .order; together = x .together } in
     passing-answered words (x .found) figures figures′ judged (subst (λ (o : List ℕ). Judged words o figures figures′ judged) (found-there x) j) (order-fine known) (x .passing)
 
 pub none-is-passed : NoneIsPassed

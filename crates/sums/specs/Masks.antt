@@ -1,9 +1,9 @@
 -- Sets of rows as tests on row numbers, and the two questions that are asked of a test: does any number below n pass it, and which is
 -- the lowest? Definitions only; their laws are in MaskLaws.
 -- Assumes nothing.
-use Prim.Native.Nat.{ℕ, zero, suc}
+use Prim.Native.Nat.{ℕ, zero, suc, _<_}
 use mathlib.Core.Bool.{Bool, true, false, not, _&&_, _||_}
-use lib.Dec.{leb, ltb}
+use lib.Dec.{T as Is, leb, ltb}
 
 -- a set of rows: those at which it is true
 abbrev pub Mask : Type 0
@@ -24,6 +24,10 @@ outside s e p = not (run s e p)
 unfoldable pub anyBelow : ℕ → Mask → Bool
 anyBelow zero p = false
 anyBelow (suc n) p = anyBelow n p || p n
+
+-- no number below n passes the test
+abbrev pub None : ℕ → Mask → Type 0
+None n p = (k : ℕ) → k < n → Is (p k) → ⊥
 
 -- a place, or that there is none
 pub data Place : Type 0 where

@@ -1,8 +1,8 @@
 //! Judges the priority order of a table of CAN messages, and finds one.
 //!
 //! Given which messages a bus has to carry and in which order of priority, [`judge`] says for
-//! each message the longest time it can take from being queued to being wholly sent, or that no
-//! such time within its deadline can be promised. Given the messages alone, [`find`] gives an
+//! each message a time from being queued within which it is wholly sent, the least that the
+//! published equations allow, or that they allow none within its deadline. Given the messages alone, [`find`] gives an
 //! order that passes this judgement, or says that there is none. Both are done by a proved
 //! library, linked in statically; this crate adds safe types and nothing else. All times are whole
 //! bit times.

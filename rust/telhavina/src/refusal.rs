@@ -33,8 +33,8 @@ pub enum Refusal {
         /// The first place that does.
         place: usize,
     },
-    /// 8: no order of these messages keeps every deadline. At some place, counted from the lowest
-    /// up, none of the bands that were left passes; a band is a priority row or a whole FIFO.
+    /// 8: no order of these messages passes. At some place, counted from the lowest up, none of
+    /// the bands that were left passes; a band is a priority row or a whole FIFO.
     NoOrder {
         /// The bands that were left.
         unplaced: usize,
@@ -98,8 +98,8 @@ impl fmt::Display for Refusal {
             }
             Refusal::NoOrder { unplaced, tried } => write!(
                 f,
-                "no order of these messages keeps every deadline (bands left without a place: \
-                 {unplaced}, bands tried: {tried})."
+                "no order of these messages passes (bands left without a place: {unplaced}, bands \
+                 tried: {tried})."
             ),
         }
     }

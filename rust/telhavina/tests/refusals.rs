@@ -136,8 +136,8 @@ fn in_words() {
     let no_order = Refusal::NoOrder { unplaced: 3, tried: 17 };
     assert_eq!(
         no_order.to_string(),
-        "Refusal 8: no order of these messages keeps every deadline (bands left without a place: \
-         3, bands tried: 17)."
+        "Refusal 8: no order of these messages passes (bands left without a place: 3, bands \
+         tried: 17)."
     );
     let all = [
         Refusal::Ragged,

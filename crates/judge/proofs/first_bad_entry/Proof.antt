@@ -3,10 +3,11 @@ use borrow.Author.Needs.{needs}
 use native.Mathlib.Omega.{arith}
 use Prim.Native.Nat.{_≤_, _-_}
 use mathlib.Core.Path.{_≡_, sym}
+use Rattle.sums.specs.Masks.{None}
 use Rattle.sums.specs.MaskLaws.{lowest-at, lowest-none}
 use Rattle.licence.specs.Limit.{limit}
 use Rattle.order.specs.Orders.{badEntry}
-use Rattle.order.specs.Split.{None, none-next}
+use Rattle.order.specs.Split.{none-next}
 use Rattle.sums.specs.Columns.{at}
 use Rattle.order.specs.Marks.{Marked, marked-none, marked-next}
 use Rattle.judge.proofs.Entries.{entry-high, entry-again, entry-fine}

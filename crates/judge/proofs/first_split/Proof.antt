@@ -4,11 +4,12 @@ use native.Mathlib.Omega.{arith}
 use Prim.Native.Nat.{_+_, _≤_, _-_}
 use mathlib.Core.Path.{_≡_, refl, sym, _∙_}
 use lib.ListN.{length, length-set}
+use Rattle.sums.specs.Masks.{None}
 use Rattle.sums.specs.MaskLaws.{lowest-at, lowest-none}
 use Rattle.sums.specs.Columns.{at}
 use Rattle.licence.specs.Limit.{limit}
 use Rattle.order.specs.Orders.{resumes}
-use Rattle.order.specs.Split.{None, none-next}
+use Rattle.order.specs.Split.{none-next}
 use Rattle.order.specs.Marks.{Marked, marked-none, marked-next}
 use Rattle.judge.proofs.Entries.{by-true, by-false}
 use Rattle.judge.proofs.first_split.Statement.{statement}

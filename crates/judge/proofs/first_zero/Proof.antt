@@ -3,9 +3,10 @@ use borrow.Author.Needs.{needs}
 use native.Mathlib.Omega.{arith}
 use Prim.Native.Nat.{_≤_, _-_}
 use mathlib.Core.Path.{_≡_, sym}
+use Rattle.sums.specs.Masks.{None}
 use Rattle.sums.specs.MaskLaws.{lowest-at, lowest-none}
 use Rattle.licence.specs.Limit.{limit}
-use Rattle.order.specs.Split.{None, none-next}
+use Rattle.order.specs.Split.{none-next}
 use Rattle.judge.specs.Walk.{zeroAt}
 use Rattle.judge.proofs.Entries.{zero-here, zero-not}
 use Rattle.judge.proofs.first_zero.Statement.{statement}
