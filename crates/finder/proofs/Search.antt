@@ -4,7 +4,7 @@ use Prim.Native.Nat.{ℕ, _+_, _-_, _*_, _≤_, _<_, max}
 use native.Mathlib.Decide.{decLt}
 use native.Mathlib.Omega.{arith}
 use mathlib.Core.Path.{_≡_, refl, sym, ap, ap₂, subst, subst₂, _∙_}
-use mathlib.Core.Bool.{Bool, true, false, not, cond, _&&_, _||_, and-true}
+use mathlib.Core.Bool.{Bool, not, _&&_, _||_, and-true}
 use mathlib.Core.List.{List, [], _++_}
 use lib.ListN.{length, length-append}
 use lib.Dec.{T as Is, eqb, eqb→eq, T-not, not-T}
@@ -14,7 +14,7 @@ use Rattle.sums.specs.MaskLaws.{same-test, and-left, and-intro}
 use Rattle.sums.specs.Columns.{at}
 use Rattle.sums.specs.Sums.{count, maxOver}
 use Rattle.sums.specs.Laws.{over-same, over-empty}
-use Rattle.sums.specs.Runs.{run-beyond, over-parts}
+use Rattle.sums.specs.Runs.{run-beyond, max-join}
 use Rattle.licence.specs.Limit.{limit}
 use Rattle.order.specs.Table.{Table, band, MIN, leastE, F}
 use Rattle.order.specs.Orders.{mem, NoRepeat}
@@ -31,16 +31,6 @@ use Rattle.finder.specs.Steps.{byBand, firstRows, RunEnds}
 use Rattle.finder.proofs.Sorted.{rising-length}
 use Rattle.finder.proofs.ByBand.{bandsOf, bands-append, bands-elim, bands-intro, bands-once}
 use Rattle.finder.proofs.Waiting.{waiting, waiting-elim, waiting-lead, Tried, Next, rows, front-is, row-waits, not-before, not-rest, still-waiting, to-try, none-sooner, counted-before, all-tried}
-
--- the greatest over two masks together
-cond-join : (a b : Bool) (x : ℕ) → cond (a || b) x 0 ≡ max (cond b x 0) (cond a x 0)
-cond-join true true x = omega arith
-cond-join true false x = omega arith
-cond-join false true x = omega arith
-cond-join false false x = omega arith
-
-max-join : (n : ℕ) (p q : Mask) (f : ℕ → ℕ) → maxOver n (λ k. p k || q k) f ≡ max (maxOver n q f) (maxOver n p f)
-max-join n p q f = over-parts max 0 refl (λ a b c d. omega arith) n (λ k. p k || q k) q p f (λ k l. cond-join (p k) (q k) (f k))
 
 -- a mask has, below n, the rows that its rising list has
 rising-rows : (n : ℕ) (m : Mask) (k : ℕ) → k < n → mem (rising n m) k ≡ m k
@@ -99,12 +89,12 @@ module _ (n : ℕ) (c t j e key : List ℕ) where
       abbrev own : Mask
       own = band τ (at key (x .row))
 
-      pub parts : front ≡ bandsOf τ (x .before) ++ (rows τ placed x ++ bandsOf τ (x .rest))
+      pub parts : front ≡ bandsOf τ (x .tried .before) ++ (rows τ placed x ++ bandsOf τ (x .rest))
       parts = b .lined ∙ front-is τ placed x
 
       pub lengths : top ≡ s + (length (rows τ placed x) + length (bandsOf τ (x .rest)))
       lengths =
-          omega (arith, b .tops, ap length parts, x .reached, length-append (bandsOf τ (x .before)) (rows τ placed x ++ bandsOf τ (x .rest)), length-append (rows τ placed x) (bandsOf τ (x .rest)))
+          omega (arith, b .tops, ap length parts, x .tried .reached, length-append (bandsOf τ (x .tried .before)) (rows τ placed x ++ bandsOf τ (x .rest)), length-append (rows τ placed x) (bandsOf τ (x .rest)))
 
       pub some-rows : 1 ≤ length (rows τ placed x)
       some-rows = let (p, inside, _) = mem-at (rows τ placed x) (x .row) (band-rows-intro τ (x .row) (x .row) (row-waits τ placed x .0) refl) in omega arith
@@ -113,10 +103,10 @@ module _ (n : ℕ) (c t j e key : List ℕ) where
       tried-there : (p : ℕ) → p < s → at key (at front p) ≡ at key (x .row) → ⊥
       tried-there p l h =
           not-before τ placed x (at front p)
-          (subst (λ (y : ℕ). Is (mem (bandsOf τ (x .before)) y)) (sym (ap (λ (y : List ℕ). at y p) parts ∙ at-left (bandsOf τ (x .before)) _ p (omega (arith, x .reached)))) (mem-getD (bandsOf τ (x .before)) p (omega (arith, x .reached)))) h
+          (subst (λ (y : ℕ). Is (mem (bandsOf τ (x .tried .before)) y)) (sym (ap (λ (y : List ℕ). at y p) parts ∙ at-left (bandsOf τ (x .tried .before)) _ p (omega (arith, x .tried .reached)))) (mem-getD (bandsOf τ (x .tried .before)) p (omega (arith, x .tried .reached)))) h
 
       behind : (p : ℕ) → s ≤ p → at front p ≡ at (rows τ placed x ++ bandsOf τ (x .rest)) (p - s)
-      behind p h = ap (λ (y : List ℕ). at y p) parts ∙ (at-right (bandsOf τ (x .before)) _ p (omega (arith, x .reached)) ∙ ap (at (rows τ placed x ++ bandsOf τ (x .rest))) (omega (arith, x .reached)))
+      behind p h = ap (λ (y : List ℕ). at y p) parts ∙ (at-right (bandsOf τ (x .tried .before)) _ p (omega (arith, x .tried .reached)) ∙ ap (at (rows τ placed x ++ bandsOf τ (x .rest))) (omega (arith, x .tried .reached)))
 
       own-there : (p : ℕ) → s ≤ p → p < s + length (rows τ placed x) → at key (at front p) ≡ at key (x .row)
       own-there p h l =
@@ -186,15 +176,15 @@ module _ (n : ℕ) (c t j e key : List ℕ) where
 
       -- it passes: it is placed, and the rest waits
       pub before-next : (top′ below′ : ℕ) → n ≤ limit → top′ ≡ top - length (rows τ placed x) → below′ ≡ maxOver n (mem (placing τ placed (x .row))) (at c) → PassesOver τ placed (at key (x .row))
-          → Before (bandsOf τ (x .before) ++ bandsOf τ (x .rest)) (placing τ placed (x .row)) top′ (tried + (bands + 1)) below′
+          → Before (bandsOf τ (x .tried .before) ++ bandsOf τ (x .rest)) (placing τ placed (x .row)) top′ (tried + (bands + 1)) below′
       unfolding limit
       before-next top′ below′ few q longest passes =
           let (l, free-band) = row-waits τ placed x in
           record {
-            tops = omega (arith, length-append (bandsOf τ (x .before)) (bandsOf τ (x .rest)), x .reached, lengths);
+            tops = omega (arith, length-append (bandsOf τ (x .tried .before)) (bandsOf τ (x .rest)), x .tried .reached, lengths);
             fits = omega (arith, length-append (rows τ placed x) placed, b .fits, lengths);
             standing = standing-next τ placed (x .row) (b .standing) l free-band;
-            lined = sym (bands-append τ (x .before) (x .rest)) ∙ ap (bandsOf τ) (sym (still-waiting τ placed x));
+            lined = sym (bands-append τ (x .tried .before) (x .rest)) ∙ ap (bandsOf τ) (sym (still-waiting τ placed x));
             longest = longest;
             few-tried = omega (arith, b .few-tried, some-rows, lengths, few-bands);
             leads-here =

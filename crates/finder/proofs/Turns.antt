@@ -15,11 +15,12 @@ use Rattle.order.specs.Table.{Table, band, MIN, leastE, F}
 use Rattle.order.specs.Orders.{mem}
 use Rattle.order.specs.Lists.{mem-getD}
 use Rattle.order.specs.Figures.{figure-fits}
-use Rattle.order.specs.Sheet.{sheet, Along, RunIn, RunVerdict, Stretch, LongestIs, VerdictIs}
+use Rattle.order.specs.Sheet.{sheet, Room, Along, Aligned, RunIn, RunVerdict, Stretch, LongestIs, VerdictIs}
+use Rattle.order.specs.Columns.{rates-along, lengths-along}
 use Rattle.order.specs.declared.Verdict.{Verdict}
 use Rattle.order.specs.declared.Verdict.the-variants.{Figure, Late}
 use Rattle.intake.specs.Held.{Held}
-use Rattle.finder.specs.Steps.{byBand, firstRows, RunEnds, turned, Turned, Aligned, SixTurned}
+use Rattle.finder.specs.Steps.{byBand, firstRows, RunEnds, turned, Turned, SixTurned}
 use Rattle.finder.proofs.Turning.{turned-within, turned-after, front-now, back-now}
 use Rattle.finder.proofs.ByBand.{bandsOf}
 use Rattle.finder.proofs.Waiting.{Tried, Next, next-of, rows, tried-late}
@@ -73,42 +74,15 @@ module _ (n : ℕ) (c t j e key : List ℕ) where
     in-front : (column along : List ℕ) → Along n column made along → (p : ℕ) → p < top → at along p ≡ at column (at (take top made) p)
     in-front column along h p l = h p (omega (arith, k .fits)) ∙ ap (at column) (sym (front-at p l))
 
-    -- and what holds of the column's numbers
-    of-along : (P : ℕ → Type 0) (column along : List ℕ) → ((i : ℕ) → i < n → P (at column i)) → Along n column made along → (p : ℕ) → p < top → P (at along p)
-    of-along P column along h a p l = subst P (sym (a p (omega (arith, k .fits)))) (h (at made p) (row p l))
-
     short : below ≤ 4096
     short = omega (arith, k .state .longest, max-bound n (mem (slice top n made)) (at c) 4096 (held .lengths .c-most))
 
-    module _ (room-c : n ≤ length ca) (room-t : n ≤ length ta) (room-j : n ≤ length ja) (room-e : n ≤ length ea) {s end : ℕ} (some : s < end) (inside : end ≤ top) where
+    module _ (room : Room n ca ta ja ea ka) {s end : ℕ} (some : s < end) (inside : end ≤ top) where
       pub run-in : RunIn top ca ta ja ea s end below
-      run-in =
-          record {
-            rates =
-                record {
-                  long-c = omega (arith, k .fits);
-                  long-t = omega (arith, k .fits);
-                  long-j = omega (arith, k .fits);
-                  c-most = of-along (λ (x : ℕ). x ≤ 4096) c ca (held .lengths .c-most) (k .aligned .along-c);
-                  t-least = of-along (λ (x : ℕ). 1 ≤ x) t ta (held .rates .t-least) (k .aligned .along-t);
-                  t-most = of-along (λ (x : ℕ). x ≤ 1000000) t ta (held .rates .t-most) (k .aligned .along-t);
-                  j-most = of-along (λ (x : ℕ). x ≤ 1000000) j ja (held .rates .j-most) (k .aligned .along-j);
-                };
-            lengths =
-                record {
-                  few = omega (arith, k .fits, held .lengths .few);
-                  long-c = omega (arith, k .fits);
-                  long-e = omega (arith, k .fits);
-                  c-most = of-along (λ (x : ℕ). x ≤ 4096) c ca (held .lengths .c-most) (k .aligned .along-c);
-                  e-most = of-along (λ (x : ℕ). x ≤ 1000000) e ea (held .lengths .e-most) (k .aligned .along-e);
-                };
-            some = some;
-            inside = inside;
-            short = short;
-          }
+      run-in = record { rates = rates-along (k .aligned) (k .fits) row room (held .rates); lengths = lengths-along (k .aligned) (k .fits) row room (held .lengths); some = some; inside = inside; short = short }
 
       pub stretch : Stretch ca s end below
-      stretch = record { forward = omega arith; long = omega (arith, k .fits); most = λ p h l. of-along (λ (x : ℕ). x ≤ 4096) c ca (held .lengths .c-most) (k .aligned .along-c) p (omega arith); short = short }
+      stretch = record { forward = omega arith; long = omega (arith, k .fits, room .long-c); most = λ p h l. run-in .lengths .c-most p (omega arith); short = short }
 
     module _ {s bands end : ℕ} (l : s < top) (tr : Tried τ (slice top n made) s bands) (r : RunEnds ka s top end) where
       -- the band that comes next
@@ -122,7 +96,7 @@ module _ (n : ℕ) (c t j e key : List ℕ) where
       own = band τ (at key (next .row))
 
       abbrev tried-rows : List ℕ
-      tried-rows = bandsOf τ (next .before)
+      tried-rows = bandsOf τ (next .tried .before)
 
       abbrev own-rows : List ℕ
       own-rows = rows τ (slice top n made) next
@@ -153,7 +127,7 @@ module _ (n : ℕ) (c t j e key : List ℕ) where
           split = parts n c t j e key (k .state) next ∙ sym (append-assoc tried-rows own-rows rest-rows)
 
           at-s : length tried-rows ≡ s
-          at-s = sym (next .reached)
+          at-s = sym (next .tried .reached)
 
           at-end : length (tried-rows ++ own-rows) ≡ end
           at-end = length-append tried-rows own-rows ∙ omega (arith, at-s, ends)

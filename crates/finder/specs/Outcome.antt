@@ -79,13 +79,13 @@ abbrev pub bands : Table → ℕ
 bands τ = count (τ .n) (leads τ)
 
 -- With b bands at most b(b + 1) / 2 are tried, whether an order is found or not, and no more than b are unplaced, and not none.
-pub record Tried (τ : Table) (a : Answer) : Type 0 where
+pub record FewTried (τ : Table) (a : Answer) : Type 0 where
   pub finding : a .number ≡ 102 → 2 * a .first ≤ bands τ * suc (bands τ)
   pub stopping : a .number ≡ 8 → 2 * a .second ≤ bands τ * suc (bands τ)
   pub unplaced : a .number ≡ 8 → (1 ≤ a .first) × (a .first ≤ bands τ)
 
 abbrev pub TriedAtMost : Type 0
-TriedAtMost = (words before after : List ℕ) (a : Answer) → Searched words before after a → Tried (tableOf words) a
+TriedAtMost = (words before after : List ℕ) (a : Answer) → Searched words before after a → FewTried (tableOf words) a
 
 -- ---- a table that no check refuses
 
@@ -205,9 +205,9 @@ tried-at-most words before after a s =
       unplaced = λ q. all (unrefused words before after a s (omega arith)) .unplaced q;
     }
   where
-    go : (r : Ending) → Told r before after a → TriedWithin (tableOf words) (bands (tableOf words) * suc (bands (tableOf words))) r → Tried (tableOf words) a
+    go : (r : Ending) → Told r before after a → TriedWithin (tableOf words) (bands (tableOf words) * suc (bands (tableOf words))) r → FewTried (tableOf words) a
     go (found o t) says h = rw (says .0) (record { finding = λ _. h; stopping = λ q. absurd (omega arith); unplaced = λ q. absurd (omega arith) })
     go (none u t) says h = rw (says .0) (record { finding = λ q. absurd (omega arith); stopping = λ _. h .0; unplaced = λ _. (h .1, h .2) })
 
-    all : tableRefusal words (length before) ≡ fine → Tried (tableOf words) a
+    all : tableRefusal words (length before) ≡ fine → FewTried (tableOf words) a
     all e = let x = s .answering e in go (x .ending) (x .told) (tried-bound (tableOf words) free (x .follows))

@@ -10,7 +10,6 @@ use lib.Dec.{eqb, ltb}
 use Rattle.sums.specs.Masks.{Mask}
 use Rattle.sums.specs.Columns.{at}
 use Rattle.licence.specs.Limit.{limit}
-use Rattle.order.specs.Sheet.{Along}
 use Rattle.order.specs.Marks.{shownBefore}
 use Rattle.finder.specs.Placing.{rising}
 
@@ -50,23 +49,6 @@ turned s e top p = cond (ltb p s) p (cond (ltb (p + (e - s)) top) (p + (e - s)) 
 pub record Turned (s e top : ℕ) (list list′ : List ℕ) : Type 0 where
   pub long : length list′ ≡ length list
   pub moved : (p : ℕ) → at list′ p ≡ at list (turned s e top p)
-
--- columns of n rows, each along the first n places of `made`
-pub record Aligned (n : ℕ) (c t j e key made c′ t′ j′ e′ key′ : List ℕ) : Type 0 where
-  pub along-c : Along n c made c′
-  pub along-t : Along n t made t′
-  pub along-j : Along n j made j′
-  pub along-e : Along n e made e′
-  pub along-key : Along n key made key′
-
--- six lists with room for n places
-pub record SixLong (n : ℕ) (made c t j e key : List ℕ) : Type 0 where
-  pub long-made : n ≤ length made
-  pub long-c : n ≤ length c
-  pub long-t : n ≤ length t
-  pub long-j : n ≤ length j
-  pub long-e : n ≤ length e
-  pub long-key : n ≤ length key
 
 -- the run goes behind in all six
 pub record SixTurned (s e top : ℕ) (made c t j a key made′ c′ t′ j′ a′ key′ : List ℕ) : Type 0 where

@@ -7,11 +7,11 @@ ghost use Prim.Native.Nat.{_+_, _≤_, _<_};
 ghost use lib.ListN.{length, take, drop};
 ghost use Rattle.sums.specs.Columns.{at};
 ghost use Rattle.licence.specs.Limit.{limit};
-ghost use Rattle.order.specs.Sheet.{sheet};
+ghost use Rattle.order.specs.Sheet.{sheet, Room, Aligned};
 ghost use Rattle.intake.specs.Held.{Keyed, Held};
 ghost use Rattle.finder.specs.Placing.{rising};
 ghost use Rattle.finder.specs.Searched.{findingAnswer, Answered, Searched};
-ghost use Rattle.finder.specs.Steps.{ownOf, Puts, byBand, firstRows, RunEnds, Turned, Aligned, SixLong, SixTurned};
+ghost use Rattle.finder.specs.Steps.{ownOf, Puts, byBand, firstRows, RunEnds, Turned, SixTurned};
 
 // That an order was found, or why none is given.
 pub enum Finding {
@@ -124,15 +124,11 @@ fn arrange(
     ea: &mut [u32],
     ka: &mut [u32],
 )
-    requires { ⌜ Held n (now c) (now t) (now j) (now e) (now key) × SixLong n (now made) (now ca) (now ta) (now ja) (now ea) (now ka) ⌝ }
+    requires { ⌜ Held n (now c) (now t) (now j) (now e) (now key) × (n ≤ length (now made)) × Room n (now ca) (now ta) (now ja) (now ea) (now ka) ⌝ }
     ensures { λ r. ⌜ (take n (now (made .exit)) ≡ byBand n (at (now (key .entry))) (firstRows n (at (now (key .entry))))) × Aligned n (now (c .entry)) (now (t .entry)) (now (j .entry)) (now (e .entry)) (now (key .entry)) (now (made .exit)) (now (ca .exit)) (now (ta .exit)) (now (ja .exit)) (now (ea .exit)) (now (ka .exit)) ⌝ }
 {
     line_up(n, key, made);
-    order::put_along(n, c, made, ca);
-    order::put_along(n, t, made, ta);
-    order::put_along(n, j, made, ja);
-    order::put_along(n, e, made, ea);
-    order::put_along(n, key, made, ka);
+    order::align(n, c, t, j, e, key, made, ca, ta, ja, ea, ka);
 }
 
 // Puts the places s to e - 1 behind in the rows and in every column.
@@ -147,7 +143,7 @@ fn turn_all(
     e: usize,
     top: usize,
 )
-    requires { ⌜ (s ≤ e) × (e ≤ top) × SixLong top (now made) (now c) (now t) (now j) (now a) (now key) ⌝ }
+    requires { ⌜ (s ≤ e) × (e ≤ top) × (top ≤ length (now made)) × Room top (now c) (now t) (now j) (now a) (now key) ⌝ }
     ensures { λ r. ⌜ SixTurned s e top (now (made .entry)) (now (c .entry)) (now (t .entry)) (now (j .entry)) (now (a .entry)) (now (key .entry)) (now (made .exit)) (now (c .exit)) (now (t .exit)) (now (j .exit)) (now (a .exit)) (now (key .exit)) ⌝ }
 {
     turn(made, s, e, top);

@@ -9,7 +9,8 @@ use borrow.Author.Count.{below-more}
 use Rattle.sums.specs.ColumnLaws.{set-below}
 use Rattle.licence.specs.Row.{badField}
 use Rattle.intake.specs.Words.{badRow, tableOf}
-use Rattle.intake.specs.Holds.{Holds, Room}
+use Rattle.order.specs.Sheet.{Room}
+use Rattle.intake.specs.Holds.{Holds}
 
 pub bad : (words : List ℕ) (i : ℕ) → (badField words i ≡ 0 → ⊥) → Is (badRow words i)
 bad words i h = not-T (eqb (badField words i) 0) (λ t. h (eqb→eq (badField words i) 0 t))

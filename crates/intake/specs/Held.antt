@@ -10,8 +10,8 @@ use Rattle.sums.specs.Columns.{Columns, at}
 use Rattle.licence.specs.Limit.{limit}
 use Rattle.licence.specs.Row.{badField}
 use Rattle.licence.specs.Laws.{Allowed, row-allowed, key-bound}
-use Rattle.order.specs.Sheet.{Lengths}
-use Rattle.intake.specs.Holds.{Room, TakenIn}
+use Rattle.order.specs.Sheet.{Lengths, Room}
+use Rattle.intake.specs.Holds.{TakenIn}
 use Rattle.intake.specs.Laws.{Accepted, accepted}
 
 -- a key for each row, none past that of a priority row in its place
@@ -25,6 +25,9 @@ pub record Held (n : ℕ) (c t j e key : List ℕ) : Type 0 where
   pub lengths : Lengths n c e
   pub some-bits : (k : ℕ) → k < n → 1 ≤ at c k
   pub keys : Keyed n key
+
+pub held-room : {n : ℕ} {c t j e key : List ℕ} → Held n c t j e key → Room n c t j e key
+held-room h = record { long-c = h .rates .long-c; long-t = h .rates .long-t; long-j = h .rates .long-j; long-e = h .lengths .long-e; long-key = h .keys .long-key }
 
 -- the columns of a table that was taken in are held
 pub held : (words : List ℕ) (room : ℕ) {n : ℕ} {c t j e key : List ℕ} → Room limit c t j e key → TakenIn words room n c t j e key → Held n c t j e key

@@ -1,9 +1,8 @@
 -- What reading a table gives: columns that hold its numbers. Definitions only.
 -- Assumes nothing.
-use Prim.Native.Nat.{ℕ, _≤_, _<_}
+use Prim.Native.Nat.{ℕ, _<_}
 use mathlib.Core.Path.{_≡_}
 use mathlib.Core.List.{List}
-use lib.ListN.{length}
 use Rattle.sums.specs.Masks.{lowest, at, nowhere}
 use Rattle.sums.specs.Columns.{at as entry}
 use Rattle.licence.specs.Row.{badField}
@@ -21,14 +20,6 @@ pub record Holds (τ : Table) (k : ℕ) (c t j e key : List ℕ) : Type 0 where
   pub is-J : (i : ℕ) → i < k → entry j i ≡ τ .J i
   pub is-E : (i : ℕ) → i < k → entry e i ≡ τ .E i
   pub is-key : (i : ℕ) → i < k → entry key i ≡ τ .key i
-
--- five columns with room for n rows
-pub record Room (n : ℕ) (c t j e key : List ℕ) : Type 0 where
-  pub long-c : n ≤ length c
-  pub long-t : n ≤ length t
-  pub long-j : n ≤ length j
-  pub long-e : n ≤ length e
-  pub long-key : n ≤ length key
 
 -- reading n rows: every row is good and the columns hold them, or the first that is not is refused
 abbrev pub RowsRead : (words : List ℕ) (n : ℕ) (c t j e key : List ℕ) → Intake → Type 0

@@ -2,7 +2,8 @@
 ghost use Prim.Native.Nat.{_*_, _≤_};
 ghost use lib.ListN.{length};
 ghost use Rattle.licence.specs.Limit.{limit};
-ghost use Rattle.intake.specs.Holds.{Room, RowsRead, IntakeIs};
+ghost use Rattle.order.specs.Sheet.{Room};
+ghost use Rattle.intake.specs.Holds.{RowsRead, IntakeIs};
 
 // The refusals of document 01.
 pub enum Refusal {

@@ -1,6 +1,7 @@
 -- The walk that writes what stands for each row: the columns along the order, one run more in the lent list, and the list when all are judged.
 -- Assumes nothing.
 use Prim.Native.Nat.{ℕ, _+_, _-_, _≤_, _<_}
+use native.Mathlib.Nat.{le-refl}
 use native.Mathlib.Decide.{decLt, ℕ-discrete}
 use native.Mathlib.Omega.{arith}
 use mathlib.Core.Path.{_≡_, refl, sym, ap, subst, _∙_}
@@ -10,12 +11,12 @@ use lib.Seq.{getD-set-same, getD-set-other}
 use Rattle.sums.specs.Masks.{run, None}
 use Rattle.sums.specs.Sums.{maxOver}
 use Rattle.sums.specs.Columns.{at}
-use Rattle.order.specs.Table.{Table}
 use Rattle.order.specs.Orders.{badEntry}
 use Rattle.order.specs.Split.{entry-range, entry-new}
-use Rattle.order.specs.Sheet.{sheet, AlongIn, Along, RunVerdict}
+use Rattle.order.specs.Sheet.{sheet, Room, AlignedIn, Aligned, RunVerdict}
+use Rattle.order.specs.Columns.{rates-along, lengths-along}
 use Rattle.order.specs.declared.Verdict.{Verdict}
-use Rattle.intake.specs.Held.{Held}
+use Rattle.intake.specs.Held.{Held, held-room}
 use Rattle.judge.specs.Judged.{Written}
 use Rattle.judge.specs.Walk.{InRange, Sound, shownAs, RunStarts, PutFor, Laid, ShownRun, FilledFrom}
 use Rattle.judge.proofs.Runs.{shown-there}
@@ -25,47 +26,31 @@ in-range {n} {order = order} h count entries = record { few = h .lengths .few; c
 
 -- ---- the columns along the order
 
-row : {n : ℕ} {τ : Table} {order : List ℕ} → Sound n τ order → (p : ℕ) → p < n → at order p < n
-row {n} {order = order} sound p l = entry-range n order p (sound .entries p l)
+module _ {n : ℕ} {c t j e key order : List ℕ} (held : Held n c t j e key) (sound : Sound n (sheet n c t j e key) order) where
+  row : (p : ℕ) → p < n → at order p < n
+  row p l = entry-range n order p (sound .entries p l)
 
-pub along-in : {n : ℕ} {τ : Table} {column order room : List ℕ} → Sound n τ order → n ≤ length column → n ≤ length room → AlongIn n column order room
-along-in sound long-column long-room = record { long-column = long-column; long-order = omega (arith, sound .count); long-room = long-room; range = row sound }
+  pub aligned-in : {c′ t′ j′ e′ key′ : List ℕ} → Room n c′ t′ j′ e′ key′ → AlignedIn n c t j e key order c′ t′ j′ e′ key′
+  aligned-in room = record { columns = held-room held; room = room; long-order = omega (arith, sound .count); range = row }
 
-module _ {n : ℕ} {c t j e key order c′ t′ j′ e′ key′ : List ℕ} (held : Held n c t j e key) (sound : Sound n (sheet n c t j e key) order)
-    (is-C : Along n c order c′) (is-T : Along n t order t′) (is-J : Along n j order j′) (is-E : Along n e order e′) (is-key : Along n key order key′) where
-  pub laid : n ≤ length c′ → n ≤ length t′ → n ≤ length j′ → n ≤ length e′ → n ≤ length key′ → Laid n c′ t′ j′ e′ key′ order
-  laid long-c long-t long-j long-e long-key =
-      record {
-        rates =
-            record {
-              long-c = long-c;
-              long-t = long-t;
-              long-j = long-j;
-              c-most = λ p l. omega (arith, is-C p l, held .rates .c-most (at order p) (row sound p l));
-              t-least = λ p l. omega (arith, is-T p l, held .rates .t-least (at order p) (row sound p l));
-              t-most = λ p l. omega (arith, is-T p l, held .rates .t-most (at order p) (row sound p l));
-              j-most = λ p l. omega (arith, is-J p l, held .rates .j-most (at order p) (row sound p l));
-            };
-        lengths =
-            record {
-              few = held .lengths .few;
-              long-c = long-c;
-              long-e = long-e;
-              c-most = λ p l. omega (arith, is-C p l, held .rates .c-most (at order p) (row sound p l));
-              e-most = λ p l. omega (arith, is-E p l, held .lengths .e-most (at order p) (row sound p l));
-            };
-        long-key = long-key;
-        range = in-range held (sound .count) (sound .entries);
-        entries = sound .entries;
-      }
+  module _ {c′ t′ j′ e′ key′ : List ℕ} (along : Aligned n c t j e key order c′ t′ j′ e′ key′) where
+    pub laid : Room n c′ t′ j′ e′ key′ → Laid n c′ t′ j′ e′ key′ order
+    laid room =
+        record {
+          rates = rates-along along (le-refl n) row room (held .rates);
+          lengths = lengths-along along (le-refl n) row room (held .lengths);
+          long-key = room .long-key;
+          range = in-range held (sound .count) (sound .entries);
+          entries = sound .entries;
+        }
 
-  pub written : {before after : List ℕ} → FilledFrom n c′ t′ j′ e′ key′ order before after 0 → Written (sheet n c t j e key) order before after
-  written f =
-      record {
-        same-length = f .same-length;
-        beyond = λ i l. f .beyond i (omega arith);
-        figures = λ p l. shown-there (sheet n c t j e key) order sound is-C is-T is-J is-E is-key (f .shown p (omega arith) l);
-      }
+    pub written : {before after : List ℕ} → FilledFrom n c′ t′ j′ e′ key′ order before after 0 → Written (sheet n c t j e key) order before after
+    written f =
+        record {
+          same-length = f .same-length;
+          beyond = λ i l. f .beyond i (omega arith);
+          figures = λ p l. shown-there (sheet n c t j e key) order sound (along .along-c) (along .along-t) (along .along-j) (along .along-e) (along .along-key) (f .shown p (omega arith) l);
+        }
 
 -- ---- one place more
 

@@ -175,26 +175,26 @@ fn fill(
     requires { ⌜ Held n (now c) (now t) (now j) (now e) (now key) × Sound n (sheet n (now c) (now t) (now j) (now e) (now key)) (now order) × (n ≤ length (now figures)) ⌝ }
     ensures { λ r. ⌜ Written (sheet n (now (c .entry)) (now (t .entry)) (now (j .entry)) (now (e .entry)) (now (key .entry))) (now (order .entry)) (now (figures .entry)) (now (figures .exit)) ⌝ }
 {
-    let mut c_along = [0u32; licence::LIMIT];
-    let mut t_along = [0u32; licence::LIMIT];
-    let mut j_along = [0u32; licence::LIMIT];
-    let mut e_along = [0u32; licence::LIMIT];
-    let mut key_along = [0u32; licence::LIMIT];
-    order::put_along(n, c, order, &mut c_along);
-    order::put_along(n, t, order, &mut t_along);
-    order::put_along(n, j, order, &mut j_along);
-    order::put_along(n, e, order, &mut e_along);
-    order::put_along(n, key, order, &mut key_along);
-    fill_runs(
+    let mut ca = [0u32; licence::LIMIT];
+    let mut ta = [0u32; licence::LIMIT];
+    let mut ja = [0u32; licence::LIMIT];
+    let mut ea = [0u32; licence::LIMIT];
+    let mut ka = [0u32; licence::LIMIT];
+    order::align(
         n,
-        &c_along,
-        &t_along,
-        &j_along,
-        &e_along,
-        &key_along,
+        c,
+        t,
+        j,
+        e,
+        key,
         order,
-        figures,
+        &mut ca,
+        &mut ta,
+        &mut ja,
+        &mut ea,
+        &mut ka,
     );
+    fill_runs(n, &ca, &ta, &ja, &ea, &ka, order, figures);
 }
 
 // The first position whose row has the figure 0.

@@ -8,7 +8,7 @@ use Rattle.sums.specs.Laws.{sum-bound, sum-ge, max-bound, min-le}
 use Rattle.sums.specs.Runs.{run-here, run-none, run-next}
 use Rattle.sums.specs.Columns.{at}
 use Rattle.order.specs.Sheet.{NumbersAre, top, RunIn}
-use Rattle.order.specs.Runs.{lengths-part}
+use Rattle.order.specs.Columns.{lengths-part}
 use Rattle.order.specs.declared.Numbers.{Numbers}
 
 module _ (C A : ℕ → ℕ) (s e : ℕ) where

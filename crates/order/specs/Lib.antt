@@ -12,4 +12,4 @@ pub mod Sheet
 pub mod Marks
 pub mod Along
 pub mod Arranged
-pub mod Runs
+pub mod Columns

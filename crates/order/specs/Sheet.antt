@@ -27,6 +27,14 @@ pub record Lengths (n : ℕ) (c e : List ℕ) : Type 0 where
   pub c-most : (k : ℕ) → k < n → at c k ≤ 4096
   pub e-most : (k : ℕ) → k < n → at e k ≤ 1000000
 
+-- five columns with room for n rows
+pub record Room (n : ℕ) (c t j e key : List ℕ) : Type 0 where
+  pub long-c : n ≤ length c
+  pub long-t : n ≤ length t
+  pub long-j : n ≤ length j
+  pub long-e : n ≤ length e
+  pub long-key : n ≤ length key
+
 -- ---- columns along an order
 
 -- an order of n rows, a column of them, and room for the column along the order
@@ -39,6 +47,21 @@ pub record AlongIn (n : ℕ) (column order room : List ℕ) : Type 0 where
 -- a column along an order of n rows
 abbrev pub Along : (n : ℕ) (column order along : List ℕ) → Type 0
 Along n column order along = (p : ℕ) → p < n → at along p ≡ at column (at order p)
+
+-- an order of n rows, their columns, and room for the columns along the order
+pub record AlignedIn (n : ℕ) (c t j e key order c′ t′ j′ e′ key′ : List ℕ) : Type 0 where
+  pub columns : Room n c t j e key
+  pub room : Room n c′ t′ j′ e′ key′
+  pub long-order : n ≤ length order
+  pub range : (p : ℕ) → p < n → at order p < n
+
+-- five columns along an order of n rows
+pub record Aligned (n : ℕ) (c t j e key order c′ t′ j′ e′ key′ : List ℕ) : Type 0 where
+  pub along-c : Along n c order c′
+  pub along-t : Along n t order t′
+  pub along-j : Along n j order j′
+  pub along-e : Along n e order e′
+  pub along-key : Along n key order key′
 
 -- ---- a band at the places s .. e - 1
 

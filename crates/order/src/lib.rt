@@ -4,7 +4,7 @@ ghost use mathlib.Core.Path.{_≡_};
 ghost use Prim.Native.Nat.{_<_, max, min};
 ghost use Rattle.sums.specs.Columns.{at};
 ghost use Rattle.sums.specs.Masks.{run};
-ghost use Rattle.order.specs.Sheet.{Lengths, AlongIn, Along, NumbersAre, RunIn, RunVerdict, Stretch, LongestIs};
+ghost use Rattle.order.specs.Sheet.{Lengths, AlongIn, Along, AlignedIn, Aligned, NumbersAre, RunIn, RunVerdict, Stretch, LongestIs};
 
 // A band's figure, or that it is late.
 pub enum Verdict {
@@ -32,7 +32,7 @@ pub fn index(x: u32) -> usize
 }
 
 // Writes a column along an order.
-pub fn put_along(n: usize, column: &[u32], order: &[u32], along: &mut [u32])
+fn put_along(n: usize, column: &[u32], order: &[u32], along: &mut [u32])
     requires { ⌜ AlongIn n (now column) (now order) (now along) ⌝ }
     ensures { λ r. ⌜ Along n (now (column .entry)) (now (order .entry)) (now (along .exit)) ⌝ }
 {
@@ -41,6 +41,31 @@ pub fn put_along(n: usize, column: &[u32], order: &[u32], along: &mut [u32])
         along[p] = column[index(order[p])];
         p += 1;
     }
+}
+
+// Writes the columns of a table along an order.
+pub fn align(
+    n: usize,
+    c: &[u32],
+    t: &[u32],
+    j: &[u32],
+    e: &[u32],
+    key: &[u32],
+    order: &[u32],
+    ca: &mut [u32],
+    ta: &mut [u32],
+    ja: &mut [u32],
+    ea: &mut [u32],
+    ka: &mut [u32],
+)
+    requires { ⌜ AlignedIn n (now c) (now t) (now j) (now e) (now key) (now order) (now ca) (now ta) (now ja) (now ea) (now ka) ⌝ }
+    ensures { λ r. ⌜ Aligned n (now (c .entry)) (now (t .entry)) (now (j .entry)) (now (e .entry)) (now (key .entry)) (now (order .entry)) (now (ca .exit)) (now (ta .exit)) (now (ja .exit)) (now (ea .exit)) (now (ka .exit)) ⌝ }
+{
+    put_along(n, c, order, ca);
+    put_along(n, t, order, ta);
+    put_along(n, j, order, ja);
+    put_along(n, e, order, ea);
+    put_along(n, key, order, ka);
 }
 
 // MAX, SUM, MIN and the least time allowed of a run.
@@ -69,10 +94,10 @@ fn numbers_of(c: &[u32], a: &[u32], s: usize, e: usize) -> Numbers
         p += 1;
     }
     Numbers {
-        longest: longest,
-        sum: sum,
-        shortest: shortest,
-        tightest: tightest,
+        longest,
+        sum,
+        shortest,
+        tightest,
     }
 }
 

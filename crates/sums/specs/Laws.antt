@@ -182,7 +182,7 @@ min-over top n m f k l h b = min-start top (maxOver n m f) n m f k l h (b k l) (
 pub load-mono : (C T J C′ T′ J′ : ℕ → ℕ) (w w′ k : ℕ) → 0 < T k → w′ ≤ w → C′ k ≤ C k → T k ≤ T′ k → J′ k ≤ J k → load C′ T′ J′ w′ k ≤ load C T J w k
 unfolding load
 load-mono C T J C′ T′ J′ w w′ k p hw hC hT hJ =
-    mul-le-mul hC (le-trans (ceil-anti (w′ + J′ k + 1) p hT) (ceil-mono (T k) (omega arith)))
+    mul-le-mul hC (le-trans (ceil-anti _ p hT) (ceil-mono (T k) (omega arith)))
 
 pub load-grows : (C T J : ℕ → ℕ) (w w′ k : ℕ) → w′ ≤ w → load C T J w′ k ≤ load C T J w k
 unfolding load
@@ -191,7 +191,7 @@ load-grows C T J w w′ k hw = mul-le-mul (le-refl (C k)) (ceil-mono (T k) (omeg
 -- it is at least C
 pub load-once : (C T J : ℕ → ℕ) (w k : ℕ) → 0 < T k → C k ≤ load C T J w k
 unfolding load
-load-once C T J w k p = le-trans (le-of-eq (sym (mul-one (C k)))) (mul-le-mul (le-refl (C k)) (ceil-pos (w + J k + 1) (T k) (omega arith) p))
+load-once C T J w k p = le-trans (le-of-eq (sym (mul-one (C k)))) (mul-le-mul (le-refl (C k)) (ceil-pos _ (T k) (omega arith) p))
 
 pub load-same : (C T J C′ T′ J′ : ℕ → ℕ) (w k k′ : ℕ) → C k ≡ C′ k′ → T k ≡ T′ k′ → J k ≡ J′ k′ → load C T J w k ≡ load C′ T′ J′ w k′
 unfolding load

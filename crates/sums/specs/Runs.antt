@@ -6,13 +6,13 @@ use native.Mathlib.Nat.{le-refl}
 use native.Mathlib.Decide.{decLt}
 use native.Mathlib.Omega.{arith}
 use mathlib.Core.Path.{_≡_, refl, ap, ap₂, _∙_}
-use mathlib.Core.Bool.{Bool, true, cond}
+use mathlib.Core.Bool.{Bool, true, false, cond, _||_, or-true}
 use lib.Dec.{T as Is, leb, ltb, leb→le, le→leb, ltb→lt, lt→ltb}
 use borrow.Author.Tests.{le-leb, lt-leb, le-ltb}
 use Rattle.sums.specs.Masks.{Mask, run, outside}
 use Rattle.sums.specs.MaskLaws.{is-true, and-left, and-right, and-intro}
 use Rattle.sums.specs.Sums.{over, maxOver, load, demand}
-use Rattle.sums.specs.Laws.{over-empty, over-next, over-beyond, demand-base}
+use Rattle.sums.specs.Laws.{over-same, over-empty, over-next, over-beyond, demand-base}
 
 module _ (s e p : ℕ) where
   pub run-here : s ≤ p → p < e → Is (run s e p)
@@ -39,22 +39,32 @@ module _ (op : ℕ → ℕ → ℕ) (z : ℕ) (zz : op z z ≡ z) (s e : ℕ) (f
   run-beyond swap n l = over-beyond op z zz swap e n (run s e) f l (λ k b i h. omega (arith, run-to s e k h))
 
 -- over a mask that is two others together
-pub over-parts : (op : ℕ → ℕ → ℕ) (z : ℕ) → z ≡ op z z → ((a b c d : ℕ) → op (op a b) (op c d) ≡ op (op a c) (op b d)) → (n : ℕ) (m x y : Mask) (f : ℕ → ℕ)
+over-parts : (op : ℕ → ℕ → ℕ) (z : ℕ) → z ≡ op z z → ((a b c d : ℕ) → op (op a b) (op c d) ≡ op (op a c) (op b d)) → (n : ℕ) (m x y : Mask) (f : ℕ → ℕ)
     → ((k : ℕ) → k < n → cond (m k) (f k) z ≡ op (cond (x k) (f k) z) (cond (y k) (f k) z)) → over op z n m f ≡ op (over op z n x f) (over op z n y f)
 unfolding over
 over-parts op z zz mix zero m x y f h = zz
 over-parts op z zz mix (suc n) m x y f h = ap₂ op (over-parts op z zz mix n m x y f (λ k l. h k (omega arith))) (h n (le-refl (suc n))) ∙ mix _ _ _ _
 
--- the greatest of a run and of the one behind it
-pub max-join : (s e n : ℕ) (f : ℕ → ℕ) → s ≤ e → e ≤ n → maxOver n (run s n) f ≡ max (maxOver n (run e n) f) (maxOver e (run s e) f)
-max-join s e n f se en =
-    over-parts max 0 refl (λ a b c d. omega arith) n (run s n) (run e n) (run s e) f (λ k l. go k l (decLt k s) (decLt k e))
-    ∙ ap (max (maxOver n (run e n) f)) (run-beyond max 0 refl s e f (λ a b c. omega arith) n en)
+-- the greatest over two masks together
+max-one : (a b : Bool) (x : ℕ) → cond (a || b) x 0 ≡ max (cond b x 0) (cond a x 0)
+max-one true true x = omega arith
+max-one true false x = omega arith
+max-one false true x = omega arith
+max-one false false x = omega arith
+
+pub max-join : (n : ℕ) (p q : Mask) (f : ℕ → ℕ) → maxOver n (λ k. p k || q k) f ≡ max (maxOver n q f) (maxOver n p f)
+max-join n p q f = over-parts max 0 refl (λ a b c d. omega arith) n (λ k. p k || q k) q p f (λ k l. max-one (p k) (q k) (f k))
+
+-- of a run and of the one behind it
+pub max-runs : (s e n : ℕ) (f : ℕ → ℕ) → s ≤ e → e ≤ n → maxOver n (run s n) f ≡ max (maxOver n (run e n) f) (maxOver e (run s e) f)
+max-runs s e n f se en =
+    over-same max 0 n (run s n) (λ k. run s e k || run e n k) f f (λ k l. go k l (decLt k s) (decLt k e)) (λ k l. refl)
+    ∙ (max-join n (run s e) (run e n) f ∙ ap (max (maxOver n (run e n) f)) (run-beyond max 0 refl s e f (λ a b c. omega arith) n en))
   where
-    go : (k : ℕ) → k < n → Dec (k < s) → Dec (k < e) → cond (run s n k) (f k) 0 ≡ max (cond (run e n k) (f k) 0) (cond (run s e k) (f k) 0)
+    go : (k : ℕ) → k < n → Dec (k < s) → Dec (k < e) → run s n k ≡ (run s e k || run e n k)
     go k l (yes a) d = rw (lt-leb s k a, lt-leb e k (omega arith))
-    go k l (no a) (yes b) = rw (run-true s n k (omega arith) l, lt-leb e k b, run-true s e k (omega arith) b) (omega arith)
-    go k l (no a) (no b) = rw (run-true s n k (omega arith) l, run-true e n k (omega arith) l, le-leb s k (omega arith), le-ltb k e (omega arith)) (omega arith)
+    go k l (no a) (yes b) = rw (run-true s n k (omega arith) l, run-true s e k (omega arith) b)
+    go k l (no a) (no b) = rw (run-true s n k (omega arith) l, run-true e n k (omega arith) l, or-true (run s e k))
 
 module _ (C T J : ℕ → ℕ) (base w : ℕ) where
   -- before a run there is no row of it

@@ -10,7 +10,7 @@ use Rattle.licence.specs.Laws.{Allowed, row-allowed, read-good, read-bad}
 use Rattle.licence.specs.declared.Row.{Row}
 use Rattle.intake.specs.Words.{badRow}
 use Rattle.intake.specs.Answer.{answer}
-use Rattle.intake.specs.Holds.{Room}
+use Rattle.order.specs.Sheet.{Room}
 use Rattle.intake.proofs.Progress.{bad, not-bad, Kept, kept-next, Progress, progress-none, progress-next}
 use Rattle.intake.proofs.read_rows.Statement.{statement}
 use Rattle.intake.proofs.read_rows.Tie as tie

@@ -6,10 +6,10 @@ use Prim.Native.Nat.{_≤_, _<_, _-_, max}
 use mathlib.Core.Path.{_≡_, refl, sym}
 use Rattle.sums.specs.Masks.{run}
 use Rattle.sums.specs.Sums.{maxOver}
-use Rattle.sums.specs.Runs.{run-none, max-join}
+use Rattle.sums.specs.Runs.{run-none, max-runs}
 use Rattle.sums.specs.Columns.{at}
 use Rattle.sums.specs.ColumnLaws.{columns-part}
-use Rattle.order.specs.Runs.{lengths-part}
+use Rattle.order.specs.Columns.{lengths-part}
 use Rattle.judge.specs.Walk.{FilledFrom}
 use Rattle.judge.proofs.Filling.{filled-none, filled-next}
 use Rattle.judge.proofs.fill_runs.Statement.{statement}
@@ -50,7 +50,7 @@ loop-again c =
     let s = c .before .before .before .before .before .before .before .before .before .before .before .before .before .before .before .before .before in
     let l = c .before .before .before .before .before .before .before .before .before .loop in
     let starts = c .before .before .before .before .before .before .before .run-start .ensures in
-    let join = max-join (c .before .before .before .before .before .before .before .run-start .result) (l .e) (s .args .n) (at (s .args .c .now)) (omega (arith, starts .some)) (l .inv .0) in (
+    let join = max-runs (c .before .before .before .before .before .before .before .run-start .result) (l .e) (s .args .n) (at (s .args .c .now)) (omega (arith, starts .some)) (l .inv .0) in (
       omega (arith, starts .some, l .inv .0),
       filled-next (s .pre .0) (l .inv .0) (l .inv .1) starts (l .inv .4) (c .before .before .before .before .before .before .judge-run .result) (l .inv .2) (c .before .before .before .before .before .before .judge-run .ensures) (c .before .before .before .before .before .shown .ensures) (c .before .before .before .put-for .ensures),
       omega (arith, c .longest-of .ensures .is, l .inv .2, join),

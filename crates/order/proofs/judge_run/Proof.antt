@@ -4,7 +4,7 @@ use borrow.Author.Needs.{needs}
 use native.Mathlib.Omega.{arith}
 use Rattle.sums.specs.Climb.{settled-at, settled-never}
 use Rattle.licence.specs.Limit.{limit}
-use Rattle.order.specs.Runs.{lengths-part}
+use Rattle.order.specs.Columns.{lengths-part}
 use Rattle.order.proofs.Rows.{Bounds, bounds}
 use Rattle.order.proofs.Ruling.{no-time, found, never}
 use Rattle.order.proofs.judge_run.Statement.{statement}
