@@ -7,7 +7,7 @@ use mathlib.Core.Path.{_≡_, refl, sym, ap, ap₂, subst, subst₂, _∙_}
 use mathlib.Core.Bool.{Bool, not, _&&_, _||_, and-true}
 use mathlib.Core.List.{List, [], _++_}
 use lib.ListN.{length, length-append}
-use lib.Dec.{T as Is, eqb, eqb→eq, T-not, not-T}
+use lib.Dec.{T as Is, eqb→eq, T-not, not-T}
 use borrow.Author.Tests.{lt-ltb, le-ltb, le-leb, lt-leb, eq-eqb, ne-eqb}
 use Rattle.sums.specs.Masks.{Mask, except, run}
 use Rattle.sums.specs.MaskLaws.{same-test, and-left, and-intro}

@@ -4,7 +4,7 @@ use native.Mathlib.Decide.{decLt}
 use native.Mathlib.Omega.{arith}
 use mathlib.Core.Path.{_≡_, sym, ap, ap₂, subst, subst₂, _∙_}
 use mathlib.Core.Bool.{not}
-use mathlib.Core.List.{List, [], _++_, append-assoc}
+use mathlib.Core.List.{List, _++_, append-assoc}
 use lib.ListN.{length, take, drop, length-append}
 use lib.Seq.{slice, slice-empty, length-slice, length-take-le, getD-take, take-take, take-at, drop-at}
 use lib.Dec.{T as Is}

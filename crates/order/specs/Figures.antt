@@ -10,7 +10,7 @@ use Rattle.sums.specs.Masks.{Mask}
 use Rattle.sums.specs.Sums.{sumOver, maxOver, minOver, ceil, load, demand}
 use Rattle.sums.specs.Laws.{demand-grows, min-ge, max-ge, over-alone}
 use Rattle.sums.specs.Least.{Least, Fits}
-use Rattle.sums.specs.Climb.{least-fits, least-one}
+use Rattle.sums.specs.Climb.{least-fits, least-one, climbed, least-climbed}
 use Rattle.order.specs.Table.{Table, B, MIN, leastE, base, F, Passes, FigureIs, Figure}
 
 pub figure-one : (F : ℕ → ℕ) (m e : ℕ) {R R′ : ℕ} → FigureIs F m e R → FigureIs F m e R′ → R ≡ R′
@@ -27,6 +27,12 @@ module _ (τ : Table) (own above below : Mask) where
   passes-figure p =
       let x = least-fits (F τ own above below) (demand-grows _ _ _ _ _ _) (MIN τ own) (leastE τ own) p in
       (x .0 + MIN τ own, record { w = x .0; least = x .1; is = refl; within = x .2 })
+
+  -- as it is worked out by hand: F is taken k times from 0 on, and then stays
+  pub figure-climbed : (k : ℕ) → F τ own above below (climbed (F τ own above below) k) ≡ climbed (F τ own above below) k → climbed (F τ own above below) k + MIN τ own ≤ leastE τ own
+      → Figure τ own above below (climbed (F τ own above below) k + MIN τ own)
+  figure-climbed k stays h =
+      record { w = climbed (F τ own above below) k; least = least-climbed (F τ own above below) (demand-grows _ _ _ _ _ _) k stays; is = refl; within = h }
 
   -- where every row has a bit, no figure is 0
   pub figure-pos : ((k : ℕ) → k < τ .n → 1 ≤ τ .C k) → (m : ℕ) → m < τ .n → Is (own m) → {R : ℕ} → Figure τ own above below R → 1 ≤ R

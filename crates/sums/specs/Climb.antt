@@ -52,6 +52,19 @@ module _ (F : ℕ → ℕ) (grows : Grows F) where
   pub least-fits : (m e : ℕ) → Fits F m e → (x : ℕ) × Least F x × (x + m ≤ e)
   least-fits m e p = let x = least-below (p .w) (le-of-eq (p .solves)) in (x .0, x .1, omega (arith, x .2, p .within))
 
+-- F taken k times from 0 on
+abbrev pub climbed : (ℕ → ℕ) → ℕ → ℕ
+climbed F zero = 0
+climbed F (suc k) = F (climbed F k)
+
+-- where that stays, it is the least solution
+pub least-climbed : (F : ℕ → ℕ) → Grows F → (k : ℕ) → F (climbed F k) ≡ climbed F k → Least F (climbed F k)
+least-climbed F grows k e = arrived F (on-way k) e
+  where
+    on-way : (k : ℕ) → OnWay F (climbed F k)
+    on-way zero = from-below F 0 (λ u. zero-le)
+    on-way (suc k) = one-step F grows (on-way k)
+
 pub least-one : (F : ℕ → ℕ) {w v : ℕ} → Least F w → Least F v → w ≡ v
 least-one F {w} {v} a b = le-antisymm (a .least v (b .solves)) (b .least w (a .solves))
 

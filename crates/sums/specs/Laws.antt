@@ -106,6 +106,17 @@ module _ (op : ℕ → ℕ → ℕ) (z : ℕ) (zz : op z z ≡ z) (swap : (a b c
 pub sum-insert : (n : ℕ) (m m′ : Mask) (f : ℕ → ℕ) (x : ℕ) → x < n → m x ≡ false → m′ x ≡ true → ((k : ℕ) → k < n → (k ≡ x → ⊥) → m′ k ≡ m k) → sumOver n m′ f ≡ sumOver n m f + f x
 sum-insert = over-insert _+_ 0 refl (λ a b c. omega arith)
 
+-- two sums are one
+pub sum-add : (n : ℕ) (m : Mask) (f g : ℕ → ℕ) → sumOver n m f + sumOver n m g ≡ sumOver n m (λ k. f k + g k)
+unfolding over
+sum-add zero m f g = refl
+sum-add (suc n) m f g = go (m n) (sum-add n m f g)
+  where
+    go : (b : Bool) → sumOver n m f + sumOver n m g ≡ sumOver n m (λ k. f k + g k)
+        → sumOver n m f + cond b (f n) 0 + (sumOver n m g + cond b (g n) 0) ≡ sumOver n m (λ k. f k + g k) + cond b (f n + g n) 0
+    go true ih = omega arith
+    go false ih = omega arith
+
 -- ---- sum, greatest and least have bounds
 
 cond-most : (b : Bool) (x v : ℕ) → x ≤ v → cond b x 0 ≤ v

@@ -1,0 +1,11 @@
+pub mod Model
+pub mod ByHand
+pub mod Frames
+pub mod Spacing
+pub mod Compete
+pub mod Trace
+pub mod Competing
+pub mod Waiting
+pub mod Serve
+pub mod Kept
+pub mod Witness
