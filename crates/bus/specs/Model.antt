@@ -9,10 +9,12 @@ use mathlib.Core.List.{List, [], _∷_, _++_, List·Memᴰ}
 use lib.ListN.{length, getD}
 use Rattle.order.specs.Table.{Table}
 
+-- a stands in the list
 infix 40 _∈_
 abbrev pub _∈_ : {A : Type 0} → A → List A → Type 0
 a ∈ l = List·Memᴰ a l
 
+-- the one where it is so, the other where it is not; and the opposite of a decision
 abbrev pub if : {P : Type 0} {A : Type 0} → Dec P → A → A → A
 if (yes p) a b = a
 if (no p) a b = b

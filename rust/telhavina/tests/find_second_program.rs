@@ -4,10 +4,12 @@
 //! kind came up.
 
 mod compare;
+mod tally;
 
-use compare::{number, refused, same, Outcome, Tally};
+use compare::{kind, number, refused, same, Outcome};
 use second::Reply;
 use tables::{bands, boundary_rows, every_order, find_case, FindCase, Prng};
+use tally::Tally;
 use telhavina::{Finding, Judgement};
 
 /// Made-up cases; their seeds are 0 to one less.
@@ -55,7 +57,7 @@ fn made_up_tables() {
         if let Reply::Found(_) = reply {
             assert!(passed(&case, &order[..case.table.len() / 6]).is_some(), "{case}\n{order:?}");
         }
-        tally.count(reply);
+        tally.count(kind(reply));
     }
     tally.print("made-up tables");
     tally.has(KINDS, LEAST);
@@ -75,8 +77,8 @@ fn deadlines_just_enough_and_one_bit_time_less() {
         let one_less = agreed(&case.tightened(&figures, Some(short_row)));
         assert!(matches!(just_enough.0, Reply::Found(_)) && just_enough.1 == order, "{case}");
         assert!(matches!(one_less.0, Reply::NoOrder { .. }), "{case}");
-        tally.count(just_enough.0);
-        tally.count(one_less.0);
+        tally.count(kind(just_enough.0));
+        tally.count(kind(one_less.0));
     }
     tally.print("deadlines just enough and one bit time less");
 }
@@ -85,7 +87,7 @@ fn deadlines_just_enough_and_one_bit_time_less() {
 fn every_boundary_of_every_field() {
     let mut tally = Tally::default();
     for row in boundary_rows() {
-        tally.count(agreed(&FindCase::of_one_row(row)).0);
+        tally.count(kind(agreed(&FindCase::of_one_row(row)).0));
     }
     tally.print("rows at the ends of their fields");
 }
@@ -110,7 +112,7 @@ fn every_order_of_a_few_bands() {
         if let Some(first) = first {
             assert_eq!(order[..first.len()], first, "{case}");
         }
-        tally.count(reply);
+        tally.count(kind(reply));
     }
     tally.print("tables of a few bands, every order judged");
     tally.has(3, LEAST);

@@ -3,10 +3,12 @@
 //! kind came up.
 
 mod compare;
+mod tally;
 
-use compare::{number, refused, same, Outcome, Tally};
+use compare::{kind, number, refused, same, Outcome};
 use second::Reply;
 use tables::{boundary_rows, Case, Prng};
+use tally::Tally;
 use telhavina::Judgement;
 
 /// Made-up cases; their seeds are 0 to one less.
@@ -38,7 +40,7 @@ fn agreed(case: &Case) -> Outcome {
 fn made_up_tables() {
     let mut tally = Tally::default();
     for case in (0..CASES).map(tables::case) {
-        tally.count(agreed(&case).0);
+        tally.count(kind(agreed(&case).0));
     }
     tally.print("made-up tables");
     tally.has(KINDS, LEAST);
@@ -59,8 +61,8 @@ fn deadlines_just_enough_and_one_bit_time_less() {
         let one_less = agreed(&case.tightened(&figures, Some(late_row)));
         assert_eq!(just_enough, (Reply::Passed, figures), "{case}");
         assert_eq!(one_less.1[late_row], 0, "{case}");
-        tally.count(just_enough.0);
-        tally.count(one_less.0);
+        tally.count(kind(just_enough.0));
+        tally.count(kind(one_less.0));
     }
     tally.print("deadlines just enough and one bit time less");
 }
@@ -69,7 +71,7 @@ fn deadlines_just_enough_and_one_bit_time_less() {
 fn every_boundary_of_every_field() {
     let mut tally = Tally::default();
     for row in boundary_rows() {
-        tally.count(agreed(&Case::of_one_row(row)).0);
+        tally.count(kind(agreed(&Case::of_one_row(row)).0));
     }
     tally.print("rows at the ends of their fields");
 }

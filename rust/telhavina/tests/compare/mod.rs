@@ -1,6 +1,5 @@
 //! What the library answers beside what the second program does, in the words of the second.
 
-use std::collections::BTreeMap;
 use std::fmt::Display;
 
 use second::Reply;
@@ -23,31 +22,8 @@ pub fn same(case: &impl Display, library: Outcome, second: Outcome) -> Outcome {
     library
 }
 
-/// How often each reply kind came up.
-#[derive(Default)]
-pub struct Tally(BTreeMap<&'static str, u32>);
-
-impl Tally {
-    pub fn count(&mut self, reply: Reply) {
-        *self.0.entry(kind(reply)).or_default() += 1;
-    }
-
-    pub fn print(&self, what: &str) {
-        println!("{what}:");
-        for (kind, times) in &self.0 {
-            println!("  {kind:19} {times:6}");
-        }
-    }
-
-    /// So many kinds came up, each at least so often.
-    #[track_caller]
-    pub fn has(&self, kinds: usize, least: u32) {
-        assert_eq!(self.0.len(), kinds, "some reply kind never came up");
-        assert!(self.0.values().all(|&times| times >= least), "some reply kind was rare");
-    }
-}
-
-fn kind(reply: Reply) -> &'static str {
+/// The kind of a reply, for counting.
+pub fn kind(reply: Reply) -> &'static str {
     match reply {
         Reply::Passed => "passed",
         Reply::Late(_) => "late",
