@@ -1,2 +1,6 @@
 pub mod Agreement
 pub mod Demand3
+pub mod Reckon
+pub mod Worked
+pub mod Cases
+pub mod Idlers
