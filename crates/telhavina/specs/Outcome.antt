@@ -1,0 +1,31 @@
+-- What C calls has one outcome too: a reply is no more than its three numbers. The promises come first, their proofs below.
+-- Assumes nothing.
+use Prim.Native.Nat.{ℕ}
+use mathlib.Core.Path.{_≡_, ap}
+use mathlib.Core.List.{List}
+use Rattle.intake.specs.Answer.{Answer}
+use Rattle.judge.specs.Judged.{Judged}
+use Rattle.judge.specs.Outcome.{one-outcome as one-judged}
+use Rattle.finder.specs.Searched.{Searched}
+use Rattle.finder.specs.Outcome.{one-outcome as one-searched}
+use Rattle.telhavina.specs.declared.Reply.{Reply}
+use Rattle.telhavina.specs.Replies.{said}
+
+-- `telhavina_judge`: for any table, order and lent list, no two replies and no two lists afterwards
+abbrev pub OneJudgeReply : Type 0
+OneJudgeReply = (words order before after after′ : List ℕ) (r r′ : Reply)
+    → Judged words order before after (said r) → Judged words order before after′ (said r′) → (r ≡ r′) × (after ≡ after′)
+
+-- `telhavina_find`: the same
+abbrev pub OneFindReply : Type 0
+OneFindReply = (words before after after′ : List ℕ) (r r′ : Reply)
+    → Searched words before after (said r) → Searched words before after′ (said r′) → (r ≡ r′) × (after ≡ after′)
+
+same-reply : (r r′ : Reply) → said r ≡ said r′ → r ≡ r′
+same-reply r r′ e = λ i. record { number = ap (λ (a : Answer). a .number) e i; first = ap (λ (a : Answer). a .first) e i; second = ap (λ (a : Answer). a .second) e i }
+
+pub one-judge-reply : OneJudgeReply
+one-judge-reply words order before after after′ r r′ j j′ = let x = one-judged words order before after after′ (said r) (said r′) j j′ in (same-reply r r′ (x .0), x .1)
+
+pub one-find-reply : OneFindReply
+one-find-reply words before after after′ r r′ j j′ = let x = one-searched words before after after′ (said r) (said r′) j j′ in (same-reply r r′ (x .0), x .1)
