@@ -23,7 +23,7 @@ use Rattle.order.specs.Bands.{not-band}
 use Rattle.bus.specs.Model.{Frame, Run, _∈_, if, during, place, SentAt, SentBy, Legal, Sane}
 use Rattle.bus.specs.Compete.{Led, takes-in, takes-else}
 use Rattle.bus.specs.Competing.{Competes}
-use Rattle.bus.specs.Waiting.{Enough, Clear}
+use Rattle.bus.specs.Enough.{longest, Enough, Clear}
 use Rattle.bus.specs.Serve.{served}
 
 -- Let a frame of the band at place p be queued at q, and R be the figure of that band. If the run lasts until the figure is up, the frame is
@@ -120,7 +120,7 @@ module _ (τ : Table) (o : List ℕ) (ord : Order τ o) (tog : Together τ o) wh
 
 -- the least solution is enough
 enough-of : (τ : Table) (o : List ℕ) (p : ℕ) → p < length o → {R : ℕ} (r : FigureAt τ o p R) → Enough τ o (λ k. 0) p (r .w)
-unfolding base demand
+unfolding longest base demand
 enough-of τ o p inside r =
     let no-delay = demand-same (τ .n) (τ .C) (τ .T) (λ k. τ .J k + 0) (τ .C) (τ .T) (τ .J) (base τ (own τ o p) (below τ o p)) (base τ (own τ o p) (below τ o p)) (above τ o p) (above τ o p)
     refl (λ k l. refl) (λ k l. (refl, refl, omega arith)) (r .w)

@@ -5,6 +5,8 @@ pub mod Spacing
 pub mod Compete
 pub mod Trace
 pub mod Competing
+pub mod Enough
+pub mod Coming
 pub mod Waiting
 pub mod Serve
 pub mod Kept

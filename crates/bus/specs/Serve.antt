@@ -15,7 +15,8 @@ use Rattle.bus.specs.Model.{Frame, Run, State, sending, _∈_, during, S
 use Rattle.bus.specs.Compete.{Turn, busy, idle, begins, turn, takes-else}
 use Rattle.bus.specs.Trace.{joined, settled, joins, next-waiting, still, log-later, will-be-sent}
 use Rattle.bus.specs.Competing.{Competes, fresh, rival-waits, fresh-rival, fresh-new}
-use Rattle.bus.specs.Waiting.{Enough, Clear, in-time}
+use Rattle.bus.specs.Enough.{Enough, Clear}
+use Rattle.bus.specs.Waiting.{in-time}
 
 -- what waits in bit time t, of the bands judged, begins in time
 abbrev pub Soon : (τ : Table) (o : List ℕ) (run : Run) (Judged : ℕ → Type 0) (w : ℕ → ℕ) → ℕ → Type 0
