@@ -69,14 +69,14 @@ pub record State : Type 0 where
 abbrev pub start : State
 start = record { waiting = []; bus = free; log = [] }
 
--- the place of row k in an order: 0 is the highest
+-- the place of row k in an order, 'a list of row numbers, highest priority first'
 unfoldable pub place : List ℕ → ℕ → ℕ
 place [] k = 0
 place (x ∷ o) k = if (ℕ-discrete k x) 0 (suc (place o k))
 
 -- ---- one bit time
 
--- frames are queued: each goes behind what waits
+-- frames are queued, each behind what waits: 'oldest first'
 unfoldable pub join : List Frame → State → State
 join fs s = record { waiting = s .waiting ++ fs; bus = s .bus; log = s .log }
 
@@ -109,7 +109,7 @@ module _ (τ : Table) where
   heads [] = []
   heads (f ∷ l) = f ∷ keep (other f) (heads l)
 
-  -- without the head of queue b
+  -- what waits when the head of queue b has left
   unfoldable pub behead : ℕ → List Frame → List Frame
   behead b [] = []
   behead b (f ∷ l) = if (ℕ-discrete (queue f) b) l (f ∷ behead b l)
@@ -136,7 +136,7 @@ module _ (τ : Table) (o : List ℕ) where
   unfoldable pub step : ℕ → List Frame → State → State
   step t fs s = pass t (compete (join fs s))
 
-  -- the state of a run at time t, when t bit times have passed
+  -- the state of a run at time t, when t bit times have passed, one after the other from time 0
   unfoldable pub state : Run → ℕ → State
   state run zero = start
   state run (suc t) = step t (during run t) (state run t)
@@ -178,8 +178,8 @@ module _ (τ : Table) where
     pub licensed : (t : ℕ) (f : Frame) → f ∈ during run t → Licensed t f
     pub spaced : Spaced (frames run)
 
-  -- what document 01 allows of a table's numbers, as far as the bus needs it: a period and a length are at least 1, and a deadline E + J is no
-  -- longer than the period
+  -- what the column 'allowed' says of a table's numbers, as far as the bus needs it: a period and a size are '1 to', and a deadline, which is E + J,
+  -- '1 to T'
   pub record Sane : Type 0 where
     pub period : (k : ℕ) → k < τ .n → 1 ≤ τ .T k
     pub some-bits : (k : ℕ) → k < τ .n → 1 ≤ τ .C k

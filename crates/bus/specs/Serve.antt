@@ -1,4 +1,4 @@
--- All judged bands together: what waits at one bit time begins in time, by induction on that bit time. For each band Ahead has it where frames
+-- All judged bands together: what waits at one bit time begins in time, by induction on that bit time. For each band Waiting has it where frames
 -- above come to compete promptly; and they do, if what waited before began in time. This is the core for orders that keep queues together and
 -- for interleaved ones alike: they differ in which frames are taken to compete, and in how late a frame may come to it.
 -- Assumes nothing.

@@ -1,14 +1,15 @@
--- The model is no empty shell: every table has legal runs, as long as one likes, in which every row is queued at once; and the table, the
+-- The model is no empty shell: every sane table has legal runs, as long as one likes, in which every row is queued at once; and the table, the
 -- order and the run of ByHand meet all that the theorem asks. There the stronger form is met exactly: no bit time could be taken off it.
 -- Assumes nothing.
 use Prim.Native.Nat.{ℕ, zero, suc, _+_, _≤_, _<_}
 use native.Mathlib.Nat.{le-refl}
+use native.Mathlib.Decide.{ℕ-discrete}
 use native.Mathlib.Omega.{arith}
 use mathlib.Core.Path.{_≡_, refl, sym, ap, subst}
 use mathlib.Core.Logic.{inl}
 use mathlib.Core.List.{List, [], _∷_, List·Memᴰ·head, List·Memᴰ·tail}
 use lib.ListN.{length, getD, replicate, length-replicate}
-use lib.Dec.{lit<, lit≤}
+use lib.Dec.{T as Is, ltb, leb, lit<, lit≤}
 use Rattle.sums.specs.Masks.{anyBelow, lowest, orElse}
 use Rattle.sums.specs.MaskLaws.{none-lowest}
 use Rattle.sums.specs.Sums.{over, ceil, load, demand}
@@ -18,23 +19,30 @@ use Rattle.order.specs.Orders.{mem, badEntry, resumes, Order, Together, own, ab
 use Rattle.order.specs.Split.{order-of, together-of}
 use Rattle.bus.specs.Model.{Frame, Run, Sent, _∈_, during, frames, SentBy, SentAt, Apart, Spaced, Licensed, Legal, Sane}
 use Rattle.bus.specs.Spacing.{spaced-append}
-use Rattle.bus.specs.ByHand.{table, order, frame, run, sent, log-by-hand}
+use Rattle.bus.specs.ByHand.{table, order, first, second, short, older, blocker, run, sent, log-by-hand}
 use Rattle.bus.specs.Kept.{kept}
 
 -- ---- every table has a legal run
 
 module _ (τ : Table) where
   -- a frame of row k, queued at 0 after all its jitter, as long as it may be
-  abbrev full : ℕ → Frame
+  abbrev pub full : ℕ → Frame
   full k = record { row = k; queued = 0; wait = τ .J k; len = τ .C k }
 
-  abbrev fulls : ℕ → List Frame
+  abbrev pub fulls : ℕ → List Frame
   fulls zero = []
   fulls (suc n) = full n ∷ fulls n
 
   -- all rows at once, and then d quiet bit times
   abbrev pub burst : ℕ → Run
   burst d = fulls (τ .n) ∷ replicate d []
+
+  pub full-in : (n k : ℕ) → k < n → full k ∈ fulls n
+  full-in zero k l = absurd (omega arith)
+  full-in (suc n) k l = elim (ℕ-discrete k n) [
+    | yes e ↦ List·Memᴰ·head (ap full e)
+    | no e ↦ List·Memᴰ·tail (full-in n k (omega arith))
+  ]
 
   a-full : (n : ℕ) (f : Frame) → f ∈ fulls n → (k : ℕ) × (k < n) × (f ≡ full k)
   a-full (suc n) f (List·Memᴰ·head e) = (n, le-refl (suc n), e)
@@ -118,24 +126,25 @@ all-licensed [] t i u e h f m = elim m [ ]
 all-licensed (fs ∷ r) t zero u e h f m = let q : t ≡ u = omega arith in subst (λ (j : ℕ). Licensed table j f) q (each (Licensed table t) fs (h .0) f m)
 all-licensed (fs ∷ r) t (suc i) u e h f m = all-licensed r (suc t) i u (omega arith) (h .1) f m
 
-fine : (k q : ℕ) → k < 4 → Licensed table q (frame k q)
-fine k q l = record { queued-at = refl; row-is = l; wait-most = omega arith; len-least = sane .some-bits k l; len-most = le-refl (table .C k) }
+-- a frame whose numbers the licence allows, by computing
+ok : (f : Frame) → Is (ltb (f .row) 4) → Is (leb (f .wait) (table .J (f .row))) → Is (leb 1 (f .len)) → Is (leb (f .len) (table .C (f .row))) → Licensed table (f .queued) f
+ok f a b c d = record { queued-at = refl; row-is = lit< a; wait-most = lit≤ b; len-least = lit≤ c; len-most = lit≤ d }
 
 pub legal : Legal table run
 unfolding frames
 legal = record {
-  licensed = λ t. all-licensed run 0 t t (omega arith) (one 3 0 (lit< tt), ((fine 2 1 (lit< tt), one 0 1 (lit< tt)), (one 1 2 (lit< tt), (tt, (tt, (tt, (tt, (tt, (tt, (tt, (tt, (one 0 11 (lit< tt), (tt, (tt, (tt, (tt, (tt, tt)))))))))))))))));
+  licensed = λ t. all-licensed run 0 t t (omega arith) (
+    (ok blocker tt tt tt tt, tt),
+    ((ok older tt tt tt tt, (ok first tt tt tt tt, tt)), ((ok short tt tt tt tt, tt), (tt, (tt, (tt, (tt, (tt, (tt, (tt, (tt, ((ok second tt tt tt tt, tt), (tt, (tt, (tt, (tt, (tt, tt)))))))))))))))),
+  );
   spaced =
-      spaced-by (frame 3 0) (frame 2 1 ∷ frame 0 1 ∷ frame 1 2 ∷ frame 0 11 ∷ []) (λ e. absurd (omega arith), (λ e. absurd (omega arith), (λ e. absurd (omega arith), (λ e. absurd (omega arith), tt))))
-      (spaced-by (frame 2 1) (frame 0 1 ∷ frame 1 2 ∷ frame 0 11 ∷ []) (λ e. absurd (omega arith), (λ e. absurd (omega arith), (λ e. absurd (omega arith), tt)))
-      (spaced-by (frame 0 1) (frame 1 2 ∷ frame 0 11 ∷ []) (λ e. absurd (omega arith), (λ e. inl (lit≤ tt), tt))
-      (spaced-by (frame 1 2) (frame 0 11 ∷ []) (λ e. absurd (omega arith), tt)
-      (spaced-by (frame 0 11) [] tt tt))));
+      spaced-by blocker (older ∷ first ∷ short ∷ second ∷ []) (λ e. absurd (omega arith), (λ e. absurd (omega arith), (λ e. absurd (omega arith), (λ e. absurd (omega arith), tt))))
+      (spaced-by older (first ∷ short ∷ second ∷ []) (λ e. absurd (omega arith), (λ e. absurd (omega arith), (λ e. absurd (omega arith), tt)))
+      (spaced-by first (short ∷ second ∷ []) (λ e. absurd (omega arith), (λ e. inl (lit≤ tt), tt))
+      (spaced-by short (second ∷ []) (λ e. absurd (omega arith), tt)
+      (spaced-by second [] tt tt))));
 }
   where
-    one : (k q : ℕ) → k < 4 → Each (Licensed table q) (frame k q ∷ [])
-    one k q l = (fine k q l, tt)
-
     spaced-by : (x : Frame) (l : List Frame) → Each (λ y. x .row ≡ y .row → Apart table x y) l → Spaced table l → Spaced table (x ∷ l)
     spaced-by x l h s = (each (λ y. x .row ≡ y .row → Apart table x y) l h, s)
 
@@ -153,9 +162,9 @@ unfolding base demand over load ceil mem
 figure-3 = figure-climbed table (own table order 3) (above table order 3) (below table order 3) 2 refl (lit≤ tt)
 
 -- what the theorem says of row 2 of the FIFO, queued at 1, whose figure is 16
-pub promised : SentBy table order run (frame 2 1) 17
-promised = kept table sane order ordered together run legal 1 16 (lit< tt) figure-1 1 (frame 2 1) (List·Memᴰ·head refl) tt (lit≤ tt)
+pub promised : SentBy table order run older 17
+promised = kept table sane order ordered together run legal 1 16 (lit< tt) figure-1 1 older (List·Memᴰ·head refl) tt (lit≤ tt)
 
 -- row 0, queued at 1, has the figure 7, which is up at 8. It was sent one bit time before that, and not sooner
-pub just : SentAt table order run (frame 0 1) 7
-just = subst (λ (l : List Sent). sent 0 1 7 ∈ l) (sym log-by-hand) (List·Memᴰ·tail (List·Memᴰ·tail (List·Memᴰ·tail (List·Memᴰ·head refl))))
+pub just : SentAt table order run first 7
+just = subst (λ (l : List Sent). sent first 7 ∈ l) (sym log-by-hand) (List·Memᴰ·tail (List·Memᴰ·tail (List·Memᴰ·tail (List·Memᴰ·head refl))))

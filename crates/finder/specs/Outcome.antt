@@ -72,7 +72,7 @@ NoOrderAtAll = (words before after : List ℕ) (a : Answer) → Searched words b
 -- Nothing is replied but found, 'no order', and the refusals 1 to 4.
 abbrev pub NoOtherReply : Type 0
 NoOtherReply = (words before after : List ℕ) (a : Answer) → Searched words before after a
-    → (a .number ≡ 102) ⊎ ((a .number ≡ 8) ⊎ (a .number ≤ 4))
+    → (a .number ≡ 102) ⊎ ((a .number ≡ 8) ⊎ ((1 ≤ a .number) × (a .number ≤ 4)))
 
 -- the number of bands
 abbrev pub bands : Table → ℕ
@@ -189,12 +189,12 @@ found-exactly words before after a s e =
 pub no-other-reply : NoOtherReply
 no-other-reply words before after a s = go (tableRefusal words (length before)) refl
   where
-    ends : (r : Ending) → Told r before after a → (a .number ≡ 102) ⊎ ((a .number ≡ 8) ⊎ (a .number ≤ 4))
+    ends : (r : Ending) → Told r before after a → (a .number ≡ 102) ⊎ ((a .number ≡ 8) ⊎ ((1 ≤ a .number) × (a .number ≤ 4)))
     ends (found o t) says = inl (ap (λ (x : Answer). x .number) (says .0))
     ends (none u t) says = inr (inl (ap (λ (x : Answer). x .number) (says .0)))
 
-    go : (c : Check) → tableRefusal words (length before) ≡ c → (a .number ≡ 102) ⊎ ((a .number ≡ 8) ⊎ (a .number ≤ 4))
-    go (refused r) e = inr (inr (omega (arith, number-small (table-small words (length before)) e, ap (λ (x : Answer). x .number) (s .refusing r e .0))))
+    go : (c : Check) → tableRefusal words (length before) ≡ c → (a .number ≡ 102) ⊎ ((a .number ≡ 8) ⊎ ((1 ≤ a .number) × (a .number ≤ 4)))
+    go (refused r) e = inr (inr (subst (λ (n : Answer). (1 ≤ n .number) × (n .number ≤ 4)) (sym (s .refusing r e .0)) (number-small (table-small words (length before)) e)))
     go fine e = let x = s .answering e in ends (x .ending) (x .told)
 
 pub tried-at-most : TriedAtMost

@@ -51,36 +51,36 @@ not-refusal r n l = ne-eqb (refusalAnswer r .number) n (λ e. omega (arith, refu
 
 -- ---- the numbers of the checks
 
--- a check that refuses does so with a number of at most `most`
+-- a check that refuses does so with a number from 1 to `most`
 pub data Small (most : ℕ) : Check → Type 0 where
-  small : {r : Answer} → r .number ≤ most → Small most (refused r)
+  small : {r : Answer} → 1 ≤ r .number → r .number ≤ most → Small most (refused r)
   none : Small most fine
 
 -- so is the number that it refuses with
-pub number-small : {most : ℕ} {c : Check} {r : Answer} → Small most c → c ≡ refused r → r .number ≤ most
+pub number-small : {most : ℕ} {c : Check} {r : Answer} → Small most c → c ≡ refused r → (1 ≤ r .number) × (r .number ≤ most)
 number-small {most} {c} {r} h e = go (subst (Small most) e h)
   where
-    go : Small most (refused r) → r .number ≤ most
-    go (small l) = l
+    go : Small most (refused r) → (1 ≤ r .number) × (r .number ≤ most)
+    go (small k l) = (k, l)
 
 -- then no more than any wider bound
 pub wider-small : {most more : ℕ} {c : Check} → most ≤ more → Small most c → Small more c
-wider-small l (small h) = small (le-trans h l)
+wider-small l (small k h) = small k (le-trans h l)
 wider-small l none = none
 
 -- checks that run one after the other
 module _ {most : ℕ} where
   pub then-small : {a b : Check} → Small most a → Small most b → Small most (a then b)
-  then-small (small h) k = small h
+  then-small (small i h) k = small i h
   then-small none k = k
 
-  pub if-small : (t : Bool) (r : Answer) → r .number ≤ most → Small most (refuseIf t r)
-  if-small true r h = small h
-  if-small false r h = none
+  pub if-small : (t : Bool) (r : Answer) → 1 ≤ r .number → r .number ≤ most → Small most (refuseIf t r)
+  if-small true r i h = small i h
+  if-small false r i h = none
 
-  pub at-small : (p : Place) (r : ℕ → Answer) → ((k : ℕ) → r k .number ≤ most) → Small most (refuseAt p r)
-  at-small (at k) r h = small (h k)
-  at-small nowhere r h = none
+  pub at-small : (p : Place) (r : ℕ → Answer) → ((k : ℕ) → 1 ≤ r k .number) → ((k : ℕ) → r k .number ≤ most) → Small most (refuseAt p r)
+  at-small (at k) r i h = small (i k) (h k)
+  at-small nowhere r i h = none
 
 -- the checks of a lent table
 pub table-small : (words : List ℕ) (room : ℕ) → Small 4 (tableRefusal words room)

@@ -38,9 +38,9 @@ abbrev pub ZeroExactlyLate : Type 0
 ZeroExactlyLate = (words order before after : List ℕ) (a : Answer) → Judged words order before after a
     → refusal words order (length before) ≡ fine → (p : ℕ) → p < rows words → (at after (at order p) ≡ 0) ↔ LateAt (tableOf words) order p
 
--- A refusal bears no number past 7.
+-- A refusal bears a number from 1 to 7.
 abbrev pub RefusedSmall : Type 0
-RefusedSmall = (words order : List ℕ) (room : ℕ) (r : Answer) → refusal words order room ≡ refused r → r .number ≤ 7
+RefusedSmall = (words order : List ℕ) (room : ℕ) (r : Answer) → refusal words order room ≡ refused r → (1 ≤ r .number) × (r .number ≤ 7)
 
 -- nothing is refused, every band passes, and the list has the figure of each row
 pub record Passing (words order before after : List ℕ) : Type 0 where

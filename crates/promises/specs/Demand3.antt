@@ -27,19 +27,19 @@ use Rattle.promises.specs.Agreement.{found-fine, found-is-passed}
 
 -- On the bus with this table and order: in every legal run, each frame queued at q is wholly sent no later than q and the figure of its row, if the
 -- run lasts that long.
-abbrev pub Keeps : (words order figures : List ℕ) → Type 0
-Keeps words order figures = (run : Run) → Legal (tableOf words) run → (q : ℕ) (f : Frame) → f ∈ during run q
+abbrev pub KeepsFigures : (words order figures : List ℕ) → Type 0
+KeepsFigures words order figures = (run : Run) → Legal (tableOf words) run → (q : ℕ) (f : Frame) → f ∈ during run q
     → q + at figures (f .row) ≤ length run → SentBy (tableOf words) order run f (q + at figures (f .row))
 
 -- What the judge answers 'passed' keeps the figures that stand in the lent list afterwards.
 abbrev pub PassedIsKept : Type 0
-PassedIsKept = (words order before after : List ℕ) (a : Answer) → Judged words order before after a → a .number ≡ 100 → Keeps words order after
+PassedIsKept = (words order before after : List ℕ) (a : Answer) → Judged words order before after a → a .number ≡ 100 → KeepsFigures words order after
 
 -- An order that was found keeps its figures: those that the judge gives for it, in any list lent for them that has room.
 abbrev pub FoundIsKept : Type 0
 FoundIsKept = (words before after : List ℕ) (a : Answer) → Searched words before after a → a .number ≡ 102
     → (figures figures′ : List ℕ) (judged : Answer) → rows words ≤ length figures → Judged words (take (rows words) after) figures figures′ judged
-    → Keeps words (take (rows words) after) figures′
+    → KeepsFigures words (take (rows words) after) figures′
 
 -- Each frame is wholly sent, at a time e, no later than its deadline after its event (which lies its wait before q), if the run lasts until the time
 -- allowed after queuing is over.
@@ -55,7 +55,7 @@ FoundMeetsDeadlines = (words before after : List ℕ) (a : Answer) → Searched 
 
 module _ {words order : List ℕ} {room : ℕ} (known : Fine words order room) where
   -- the numbers of an accepted table are as the bus needs them
-  sane : Sane (tableOf words)
+  pub sane : Sane (tableOf words)
   sane = record {
     period = λ k l. row-allowed words k (known .accepted .good k l) .period-pos;
     some-bits = λ k l. row-allowed words k (known .accepted .good k l) .length-pos;

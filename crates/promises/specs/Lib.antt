@@ -4,3 +4,4 @@ pub mod Reckon
 pub mod Worked
 pub mod Cases
 pub mod Idlers
+pub mod Shown
