@@ -178,7 +178,7 @@ module _ (τ : Table) where
     pub licensed : (t : ℕ) (f : Frame) → f ∈ during run t → Licensed t f
     pub spaced : Spaced (frames run)
 
-  -- what the column 'allowed' says of a table's numbers, as far as the bus needs it: a period and a size are '1 to', and a deadline, which is E + J,
+  -- what document 01 allows of a table's numbers, as far as the bus needs it: a period and a length are at least 1, and a deadline, which is E + J, is
   -- '1 to T'
   pub record Sane : Type 0 where
     pub period : (k : ℕ) → k < τ .n → 1 ≤ τ .T k

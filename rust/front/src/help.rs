@@ -1,0 +1,61 @@
+//! The texts that explain the program.
+
+/// How it is called, in short.
+pub const USAGE: &str = "\
+usage: telhavina judge TABLE.csv [ORDER] [--json]
+       telhavina find TABLE.csv [--json]
+       telhavina --help
+";
+
+/// How it is called, and all that an officer has to know.
+pub const HELP: &str = "\
+telhavina: is every message of this CAN bus sent within its time?
+
+usage
+  telhavina judge TABLE.csv [ORDER] [--json]   judge an order of priority
+  telhavina find TABLE.csv [--json]            find an order of priority that passes
+  telhavina --help                             show this text
+
+ORDER
+  The messages from the highest priority to the lowest, in one argument with commas between them:
+  names, or row numbers (rows count from 0 in the order of the file). The messages of one FIFO
+  stand together. Without ORDER, the order is that of the file: first line highest.
+
+the file
+  # bitrate 250000
+  name,queue,length,period,deadline,jitter
+  Rudder,priority,ext 8,10,10,0.5
+  Winch speed,fifo 1,std 4,50,50,0
+  Winch load,fifo 1,bits 95,100,80,0
+
+  bitrate   Bits per second. If it is there, on the first line, times are milliseconds with at
+            most 9 decimals, and rounded so as never to flatter: period and deadline down to whole
+            bit times, jitter up. Without it, times are whole bit times.
+  name      Any text without a comma or quotes; no two are alike.
+  queue     priority, or fifo N with N from 1 to 64.
+  length    std N: N bytes, 11-bit identifier; ext N: N bytes, 29-bit identifier (0 to 8 bytes);
+            bits N: N bit times, 1 to 4096.
+  period    1 to 1000000 bit times.
+  deadline  From 1 bit time to the period.
+  jitter    From 0 to the deadline.
+  A file has 1 to 64 messages. Blank lines and lines that start with # are skipped.
+
+the answer
+  A table, highest priority first, then the verdict.
+  figure    The time from queuing within which the message is wholly sent; 'late' where none can
+            be given within the time allowed. A late line starts with ! (grep '^!').
+  allowed   Deadline less jitter; for a message in a FIFO, the least of its queue.
+  slack     Allowed less figure.
+  With a bit rate, the same three follow in milliseconds.
+  'found' gives an order that can be used as ORDER, and how many bands were tried; a band is one
+  priority message, or all messages of one FIFO. 'no order' says that no order passes.
+  With --json, the same is one JSON object on one line.
+
+exit status
+  0  passed, or found
+  1  late, or no order
+  2  refused, or not readable: the reason is on standard error (with --json, in the object)
+
+example
+  telhavina judge examples/table_a.csv C,F,A,B
+";

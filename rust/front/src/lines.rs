@@ -1,0 +1,144 @@
+//! The lines of a file, each of them plain text that looks like what it is.
+
+use crate::fault::{Column, Fault};
+
+const BYTE_ORDER_MARK: &[u8] = b"\xEF\xBB\xBF";
+/// How UTF-16 starts, in both byte orders.
+const WIDE: [&[u8]; 2] = [b"\xFF\xFE", b"\xFE\xFF"];
+
+/// One line of a file.
+#[derive(Debug, Clone, Copy, PartialEq, Eq)]
+pub struct Line<'a> {
+    /// Counted from 1.
+    pub number: usize,
+    /// Without its end.
+    pub text: &'a str,
+}
+
+impl Line<'_> {
+    /// Whether the line is for people only, or tells the bit rate.
+    pub fn is_comment(&self) -> bool {
+        self.text.starts_with('#')
+    }
+
+    /// Whether there is nothing on it.
+    pub fn is_blank(&self) -> bool {
+        trimmed(self.text).is_empty()
+    }
+}
+
+/// The text without the blanks around it. No other kind of blank gets past [`lines`].
+pub fn trimmed(text: &str) -> &str {
+    text.trim_matches(' ')
+}
+
+/// The lines of these bytes, each of them or what is wrong with it.
+pub fn lines(bytes: &[u8]) -> impl Iterator<Item = Result<Line<'_>, Fault>> {
+    let bytes = bytes.strip_suffix(b"\n").unwrap_or(bytes);
+    bytes
+        .split(|&byte| byte == b'\n')
+        .zip(1..)
+        .map(|(bytes, number)| line(bytes, number).map_err(|fault| fault.on_line(number)))
+}
+
+fn line(bytes: &[u8], number: usize) -> Result<Line<'_>, Fault> {
+    if number == 1 {
+        refuse_marks(bytes)?;
+    }
+    let text = match str::from_utf8(bytes) {
+        Ok(text) => text,
+        Err(error) => {
+            let before = bytes.get(..error.valid_up_to()).unwrap_or(bytes);
+            let fault = Fault::new("not UTF-8 text: save the file as UTF-8");
+            return Err(at(before, fault));
+        }
+    };
+    match text.char_indices().find_map(|(at, c)| Some((at, strange(c)?))) {
+        None => Ok(Line { number, text }),
+        // A CR at the end is the end of a line, not a part of the last column.
+        Some((at, _)) if text.get(at..) == Some("\r") => {
+            Err(Fault::new("the line ends in CR LF: save the file with LF line ends"))
+        }
+        Some((place, what)) => Err(at(
+            bytes.get(..place).unwrap_or(bytes),
+            Fault::new(format!("{what} is not allowed: expected plain text and blanks")),
+        )),
+    }
+}
+
+/// Some programs put such marks before a text; they would become part of what is read first.
+fn refuse_marks(bytes: &[u8]) -> Result<(), Fault> {
+    if bytes.starts_with(BYTE_ORDER_MARK) {
+        return Err(Fault::new(
+            "the file starts with a byte-order mark: save it as UTF-8 without one",
+        ));
+    }
+    if WIDE.iter().any(|mark| bytes.starts_with(mark)) {
+        return Err(Fault::new("the file looks like UTF-16: save it as UTF-8"));
+    }
+    Ok(())
+}
+
+/// The fault in the column that comes after these bytes of a line.
+fn at(before: &[u8], fault: Fault) -> Fault {
+    let commas = before.iter().filter(|&&byte| byte == b',').count();
+    match Column::ALL.get(commas) {
+        Some(&column) if !before.starts_with(b"#") => fault.in_column(column),
+        _ => fault,
+    }
+}
+
+/// What this character is, if it must not be in a file: one that cannot be seen, or not be told
+/// from a blank, could make two names look like one.
+fn strange(c: char) -> Option<String> {
+    match c {
+        ' ' => None,
+        '\t' => Some("a tab".to_string()),
+        '\r' => Some("a CR (carriage return)".to_string()),
+        '\0' => Some("a NUL character".to_string()),
+        _ if c.is_control() => Some(format!("the control character U+{:04X}", u32::from(c))),
+        _ if c.is_whitespace() => Some(format!("the special blank U+{:04X}", u32::from(c))),
+        '\u{AD}'
+        | '\u{200B}'..='\u{200F}'
+        | '\u{202A}'..='\u{202E}'
+        | '\u{2060}'..='\u{206F}'
+        | '\u{FEFF}' => Some(format!("the invisible character U+{:04X}", u32::from(c))),
+        _ => None,
+    }
+}
+
+#[cfg(test)]
+mod tests {
+    use super::{lines, Line};
+    use crate::fault::{Column, Fault};
+
+    fn first_fault(bytes: &[u8]) -> Fault {
+        lines(bytes).find_map(Result::err).expect("a fault")
+    }
+
+    #[test]
+    fn the_last_end_of_line_may_be_missing() {
+        let both = [Line { number: 1, text: "a" }, Line { number: 2, text: " b" }];
+        for bytes in [b"a\n b".as_slice(), b"a\n b\n"] {
+            assert_eq!(lines(bytes).collect::<Result<Vec<_>, _>>(), Ok(both.to_vec()));
+        }
+    }
+
+    #[test]
+    fn the_line_and_the_column_are_named() {
+        let fault = first_fault(b"a,b\nc,d,e\xFF,f");
+        assert_eq!((fault.line, fault.column), (Some(2), Some(Column::Length)));
+        let fault = first_fault(b"# a,b,\x07");
+        assert_eq!((fault.line, fault.column), (Some(1), None));
+        let fault = first_fault("a\u{200b}".as_bytes());
+        assert_eq!((fault.line, fault.column), (Some(1), Some(Column::Name)));
+        // Past the last column there is none to name.
+        assert_eq!(first_fault(b",,,,,,\x07").column, None);
+    }
+
+    #[test]
+    fn letters_of_any_language_are_plain() {
+        let text = "Küche, Líne 3, 網, e\u{301}, 🐟";
+        assert_eq!(lines(text.as_bytes()).next(), Some(Ok(Line { number: 1, text })));
+    }
+}

@@ -1,0 +1,32 @@
+//! The program that the officer runs: it says what the library part has to say, and ends with its
+//! status.
+
+use std::env;
+use std::io::{self, ErrorKind, Write};
+use std::process::ExitCode;
+
+use front::{run, REFUSED};
+
+fn main() -> ExitCode {
+    let said = run(env::args_os().skip(1).collect());
+    complain(&said.err);
+    match answer(&said.out) {
+        // A reader that has seen enough and left is no trouble of ours: the verdict stands.
+        Err(error) if error.kind() != ErrorKind::BrokenPipe => {
+            complain(&format!("telhavina: the answer could not be written: {error}\n"));
+            ExitCode::from(REFUSED)
+        }
+        _ => ExitCode::from(said.status),
+    }
+}
+
+fn answer(text: &str) -> io::Result<()> {
+    let mut out = io::stdout().lock();
+    out.write_all(text.as_bytes())?;
+    out.flush()
+}
+
+fn complain(text: &str) {
+    // With the way for complaints closed, there is nowhere left to say so.
+    let _ = io::stderr().write_all(text.as_bytes());
+}

@@ -1,0 +1,199 @@
+//! The command line itself: help, misuse, orders, and an output that nobody reads.
+
+mod common;
+
+use std::io;
+use std::process::Stdio;
+
+use common::json::{self, Json};
+use common::{command, file, run, said, HEADER};
+
+const TABLE_A: &str = "examples/table_a.csv";
+
+#[test]
+fn help() {
+    for args in [&["--help"][..], &["-h"], &["help"], &["judge", "--help"], &["--json", "-h", "x"]]
+    {
+        let said = run(args);
+        assert_eq!((said.err.as_str(), said.status), ("", Some(0)), "{args:?}");
+        for part in ["usage", "ORDER", "# bitrate", HEADER, "figure", "exit status", "example"] {
+            assert!(said.out.contains(part), "{part}");
+        }
+        assert!(said.out.lines().all(|line| line.chars().count() <= 100));
+    }
+}
+
+// The example and the file that the help shows are true.
+#[test]
+fn the_help_can_be_followed() {
+    let help = run(&["--help"]).out;
+    let example = help.lines().last().expect("an example").trim();
+    let args: Vec<&str> = example.split(' ').skip(1).collect();
+    assert_eq!(run(&args).status, Some(0), "{example}");
+    let lines = help.lines().skip_while(|line| !line.contains("# bitrate")).take(5);
+    let table: String = lines.map(|line| format!("{}\n", line.trim())).collect();
+    let said = run(&["find", &file("from_help.csv", table.as_bytes())]);
+    assert_eq!(said.status, Some(0), "{said:?}");
+}
+
+#[test]
+fn misuse() {
+    let cases: [(&[&str], &str); 11] = [
+        (&[], "a command is missing"),
+        (&["jugde", TABLE_A], "no command `jugde`"),
+        (&["judge"], "the file is missing"),
+        (&["find"], "the file is missing"),
+        (&["judge", ""], "the file is missing"),
+        (&["find", TABLE_A, "C,F,B,A"], "find takes one file"),
+        (&["judge", TABLE_A, "C,F,", "B,A"], "quotes"),
+        (&["judge", TABLE_A, "--jsn"], "no option `--jsn`"),
+        (&["judge", TABLE_A, "-x,A"], "after --"),
+        (&["--", "--help"], "no command `--help`"),
+        (&["\u{1b}[2J"], "no command `\\u{1b}[2J`"),
+    ];
+    for (args, part) in cases {
+        let said = run(args);
+        assert_eq!((said.out.as_str(), said.status), ("", Some(2)), "{args:?}");
+        assert!(said.err.contains(part), "{said:?}");
+        assert!(said.err.contains("usage: telhavina judge TABLE.csv [ORDER] [--json]"), "{said:?}");
+        // A program that asks for JSON is answered in JSON, with the usage where it was.
+        let mut args = args.to_vec();
+        args.insert(0, "--json");
+        let said = run(&args);
+        assert_eq!(said.status, Some(2), "{args:?}");
+        assert_eq!(json::read(&said.out).get("verdict").text(), "usage");
+        assert!(said.err.contains("usage: "), "{said:?}");
+    }
+}
+
+#[test]
+#[cfg(unix)]
+fn arguments_that_are_not_utf_8() {
+    use std::ffi::OsStr;
+    use std::os::unix::ffi::OsStrExt;
+    let strange = OsStr::from_bytes(b"\xFF\x1B");
+    let order = run(&[OsStr::new("judge"), OsStr::new(TABLE_A), strange]);
+    assert!(order.err.contains("the ORDER is not UTF-8"), "{order:?}");
+    let file = run(&[OsStr::new("find"), strange]);
+    assert!(file.err.contains("cannot be read"), "{file:?}");
+    let command = run(&[strange]);
+    assert!(command.err.contains("no command"), "{command:?}");
+    assert_eq!([order.status, file.status, command.status], [Some(2); 3]);
+}
+
+// A file's name can hold anything: on one line for people, and back again from JSON.
+#[test]
+#[cfg(unix)]
+fn a_file_with_a_strange_name() {
+    let path =
+        file("a\"b\\\n\u{1b}ø.csv", format!("{HEADER}ø,priority,std 8,999,999,0\n").as_bytes());
+    let people = run(&["find", &path]);
+    assert!(people.out.contains("a\"b\\\\n\\u{1b}ø.csv: 1 message, "), "{people:?}");
+    assert_eq!((people.out.lines().count(), people.status), (4, Some(0)));
+    let object = json::read(&run(&["find", &path, "--json"]).out);
+    assert_eq!(object.get("file").text(), path);
+    assert_eq!(object.get("messages").items()[0].get("name").text(), "ø");
+    let fault = json::read(&run(&["judge", &path, "\t\"", "--json"]).out);
+    assert_eq!(fault.get("file").text(), path);
+    assert!(fault.get("message").text().contains("`\\t\"`"), "{fault:?}");
+}
+
+#[test]
+fn orders_of_names_and_numbers() {
+    let same =
+        ["C,F,A,B", "3,1,0,2", " C , 1,A ,2", "03,F,0,B"].map(|o| run(&["judge", TABLE_A, o]));
+    for said in &same {
+        assert_eq!((&said.out, said.status), (&same[0].out, Some(0)));
+    }
+    let after_dashes = run(&["judge", "--", TABLE_A, "C,F,A,B"]);
+    assert_eq!(after_dashes.out, same[0].out);
+}
+
+/// Judging this order of the table is turned down with these parts in the words, and this number.
+#[track_caller]
+fn turned_down(table: &str, order: &str, number: Option<u32>, parts: &[&str]) {
+    let said = run(&["judge", table, order]);
+    assert_eq!((said.out.as_str(), said.status), ("", Some(2)), "{order}");
+    assert!(said.err.starts_with(table), "{said:?}");
+    for part in parts {
+        assert!(said.err.contains(part), "{part} in {said:?}");
+    }
+    let said_json = run(&["judge", table, order, "--json"]);
+    assert_eq!((said_json.err.as_str(), said_json.status), ("", Some(2)), "{order}");
+    let object = json::read(&said_json.out);
+    assert_eq!(object.find("number").and_then(Json::whole), number, "{order}");
+    assert_eq!(object.get("file").text(), table);
+    assert!(said.err.ends_with(&format!("{}\n", object.get("message").text())), "{said:?}");
+}
+
+#[test]
+fn orders_that_the_front_cannot_hand_on() {
+    turned_down(TABLE_A, "C,X,A,B", None, &["`X` (place 1)", "`A`, `F`, `B`, `C`"]);
+    turned_down(TABLE_A, "C,f,A,B", None, &["`f` (place 1)", "did you mean `F`?"]);
+    turned_down(TABLE_A, "C,F,A,4294967296", None, &["`4294967296` (place 3)"]);
+    turned_down(TABLE_A, "C,F,,B", None, &["place 2 is empty"]);
+    turned_down(TABLE_A, "C,F,A,B,", None, &["place 4 is empty", "comma"]);
+}
+
+#[test]
+fn refusals_5_to_7() {
+    let (five, six, seven) = (Some(5), Some(6), Some(7));
+    turned_down(TABLE_A, "C,F,A", five, &["refusal 5", "3 entries for 4 messages", "missing: `B`"]);
+    turned_down(TABLE_A, "", five, &["0 entries", "missing: `A`, `F`, `B`, `C`"]);
+    turned_down(TABLE_A, "C,F,A,B,3", five, &["5 entries for 4", "repeated: `3`"]);
+    turned_down(TABLE_A, "C,F,A,B,9", five, &["not a row: `9`"]);
+    turned_down(
+        TABLE_A,
+        "C,F,A,4",
+        six,
+        &["refusal 6", "`4` (place 3) is no row: rows are 0 to 3"],
+    );
+    turned_down(TABLE_A, "C,4294967295,A,B", six, &["`4294967295` (place 1) is no row"]);
+    turned_down(TABLE_A, "C,F,3,B", six, &["`3` (place 2) repeats place 0", "missing: `A`"]);
+    let split = ["refusal 7", "`Winch speed` (place 2) comes back to fifo 1", "`0` (place 0)"];
+    turned_down("examples/fifo_mix.csv", "0,Rudder,Winch speed", seven, &split);
+}
+
+#[test]
+fn a_name_that_is_the_number_of_another() {
+    let rows = "1,priority,std 8,1000,1000,0\n0,priority,std 8,1000,1000,0\n";
+    let table = file("numbers.csv", format!("{HEADER}{rows}").as_bytes());
+    turned_down(&table, "0,1", None, &["`0` (place 0) is ambiguous", "name of row 1"]);
+    let found = run(&["find", &table]);
+    assert!(found.out.contains("order 01,00 (2 tried)"), "{found:?}");
+    assert_eq!(run(&["judge", &table, "01,00"]).status, Some(0));
+}
+
+// A reader that left before the answer came: no panic, and the verdict's own status.
+#[test]
+fn a_closed_output() {
+    for (args, status) in
+        [(&["find", "examples/deck.csv"], 0), (&["find", "examples/no_order.csv"], 1)]
+    {
+        let (reader, writer) = io::pipe().expect("a pipe");
+        drop(reader);
+        let output = command().args(args).stdout(writer).stderr(Stdio::piped()).output();
+        let said = said(output.expect("the program runs"));
+        assert_eq!((said.err.as_str(), said.status), ("", Some(status)), "{args:?}");
+    }
+}
+
+// Nor is there a panic where complaints cannot be read.
+#[test]
+fn a_closed_error_output() {
+    let (reader, writer) = io::pipe().expect("a pipe");
+    drop(reader);
+    let status = command().arg("jugde").stderr(writer).status().expect("the program runs");
+    assert_eq!(status.code(), Some(2));
+}
+
+// An answer that did not get through is no answer.
+#[test]
+#[cfg(target_os = "linux")]
+fn a_full_disk() {
+    let full = std::fs::File::options().write(true).open("/dev/full").expect("the full device");
+    let output = command().args(["find", TABLE_A]).stdout(full).stderr(Stdio::piped()).output();
+    let said = said(output.expect("the program runs"));
+    assert!(said.err.contains("could not be written"), "{said:?}");
+    assert_eq!(said.status, Some(2));
+}
