@@ -69,7 +69,7 @@ module _ (τ : Table) (o : List ℕ) (ord : Order τ o) (tog : Together τ o) wh
   place-at : (j k : ℕ) → j < length o → at o j ≡ k → place o k ≡ j
   place-at j k l e = let y = placed o k (subst (λ (x : ℕ). Is (mem o x)) e (mem-getD o j l)) in one-place o (place o k) j (ord .once) (y .0) l (y .1 ∙ sym e)
 
-  module _ (p : ℕ) (inside : p < length o) where
+  module _ (p : ℕ) where
     above-place : (k : ℕ) → Is (above τ o p k) → place o k < p
     above-place k h = let (j, b, l, e) = take-at o p k (and-left (mem (take p o) k) (not (own τ o p k)) h) in omega (arith, place-at j k l e)
 
@@ -128,7 +128,7 @@ enough-of τ o p inside r =
 
 pub kept-early : KeptEarly
 kept-early τ sane o ord tog run legal p R inside r q f m h l =
-    let (e, b, s) = served-alone τ o ord tog p inside run legal sane (r .w) (enough-of τ o p inside r) q f m h (omega (arith, r .is)) in
+    let (e, b, s) = served-alone τ o ord tog p run legal sane (r .w) (enough-of τ o p inside r) q f m h (omega (arith, r .is)) in
     (e, omega (arith, r .is), s)
 
 pub kept : Kept
