@@ -1,7 +1,7 @@
 /*
  * telhavina: judges a priority order of the CAN messages on one bus, and finds one.
  *
- * Link with libtelhavina.a. The functions allocate nothing, keep nothing between calls, and need no other library. Every
+ * Link with libtelhavina.a. The functions allocate nothing, keep nothing between calls, and need nothing but memcpy and memset. Every
  * input is answered or refused by number; nothing has to be checked beforehand.
  */
 #ifndef TELHAVINA_H

@@ -39,7 +39,7 @@ older = record { row = 2; queued = 1; wait = 0; len = 4 }
 abbrev pub blocker : Frame
 blocker = record { row = 3; queued = 0; wait = 0; len = 5 }
 
--- 17 bit times
+-- 21 bit times
 abbrev pub run : Run
 run =
     (blocker ∷ [])
@@ -47,7 +47,7 @@ run =
     ∷ (short ∷ [])
     ∷ [] ∷ [] ∷ [] ∷ [] ∷ [] ∷ [] ∷ [] ∷ []
     ∷ (second ∷ [])
-    ∷ [] ∷ [] ∷ [] ∷ [] ∷ [] ∷ []
+    ∷ [] ∷ [] ∷ [] ∷ [] ∷ [] ∷ [] ∷ [] ∷ [] ∷ [] ∷ []
 
 -- it was wholly sent at e
 abbrev pub sent : Frame → (e : ℕ) → Sent
@@ -56,6 +56,6 @@ sent f e = record { frame = f; at = e }
 -- Row 3 finds the bus free at 0 and holds it until 5, though all that stands higher comes meanwhile. At 5 row 0 goes first, until 7; then row 2, the
 -- oldest of the FIFO though row 1 stands higher, until 11. Row 0, queued in that very bit time, goes before row 1, until 13; and row 1 until 15. The
 -- last sent stands first.
-pub log-by-hand : state table order run 17 .log ≡ sent short 15 ∷ sent second 13 ∷ sent older 11 ∷ sent first 7 ∷ sent blocker 5 ∷ []
+pub log-by-hand : state table order run 21 .log ≡ sent short 15 ∷ sent second 13 ∷ sent older 11 ∷ sent first 7 ∷ sent blocker 5 ∷ []
 unfolding state step join pass passOn compete competeOn competeOf begin behead highest heads keep place ℕ-discrete decLt
 log-by-hand = refl

@@ -27,8 +27,8 @@ module _ (τ : Table) (sane : Sane τ) (o : List ℕ) (run : Run) (legal : Legal
   unfoldable pub coming : (s d : ℕ) → ℕ
   coming s d = total (bits τ o p) (window new s d)
 
-  unfoldable pub queued : (s d : ℕ) → ℕ
-  queued s d = total (most τ o p) (window (during run) s d)
+  unfoldable pub own-coming : (s d : ℕ) → ℕ
+  own-coming s d = total (most τ o p) (window (during run) s d)
 
   module _ (f : ℕ → ℕ) (w : ℕ) where
     -- before bit time e a frame comes to compete no later than f after it is queued
@@ -68,9 +68,9 @@ module _ (τ : Table) (sane : Sane τ) (o : List ℕ) (run : Run) (legal : Legal
             let early = queued-by τ o run legal (u .0) y (waits y (u .0) (u .3)) in
             (omega (arith, u .1, ap f e), omega (arith, u .2))))
 
-    pub queued-most : w + MIN τ (own τ o p) ≤ leastE τ (own τ o p) → (s d : ℕ) → d ≤ w → queued s d ≤ SUM τ (own τ o p)
-    unfolding queued most
-    queued-most within s d h =
+    pub own-coming-most : w + MIN τ (own τ o p) ≤ leastE τ (own τ o p) → (s d : ℕ) → d ≤ w → own-coming s d ≤ SUM τ (own τ o p)
+    unfolding own-coming most
+    own-coming-most within s d h =
         le-trans (by-rows (τ .n) (own τ o p) (τ .C) l (λ x m. lawful-in x m .2 .row-is))
         (sum-mono (τ .n) (own τ o p) (own τ o p) _ (τ .C) (λ k _ t. t) (λ k i t. omega (arith, mul-le-mul-left (τ .C k) (alone τ k l (spaced-window τ o run legal s d) (clash k i t)))))
       where

@@ -19,7 +19,7 @@ use Rattle.bus.specs.Compete.{Takes, Turn, busy, idle, begins, turn, Win
 use Rattle.bus.specs.Trace.{left, joined, settled, next-waiting, next-left, still, lawful, window, window-more}
 use Rattle.bus.specs.Competing.{Competes, rivals, fresh, remaining, rival-waits, remaining-le, remaining-less, rivals-next}
 use Rattle.bus.specs.Enough.{longest, Enough, Clear, Side, side, long-below, short-own, longest-most, bits, most, bits-above, no-bits, most-own, no-most}
-use Rattle.bus.specs.Coming.{coming, queued, Prompt, coming-most, queued-most}
+use Rattle.bus.specs.Coming.{coming, own-coming, Prompt, coming-most, own-coming-most}
 
 module _ (τ : Table) (sane : Sane τ) (o : List ℕ) (ord : Order τ o) (run : Run) (legal : Legal τ run) (comp : List Frame → List Frame) (K : Competes τ comp)
     (f : ℕ → ℕ) (p w : ℕ) (enough : Enough τ o f p w) (clear : Clear τ o comp p) where
@@ -45,7 +45,7 @@ module _ (τ : Table) (sane : Sane τ) (o : List ℕ) (ord : Order τ o) (run : 
   come = coming τ sane o run legal comp K p
 
   abbrev own-come : (s d : ℕ) → ℕ
-  own-come = queued τ sane o run legal comp K p
+  own-come = own-coming τ sane o run legal comp K p
 
   M-most : (1 ≤ M) × (MIN τ (own τ o p) ≤ M)
   M-most = longest-most τ o p sane ord (enough .inside)
@@ -119,7 +119,7 @@ module _ (τ : Table) (sane : Sane τ) (o : List ℕ) (ord : Order τ o) (run : 
   -- so the equation has room for it
   few : (t : ℕ) → Prompt τ sane o run legal comp K p f w (suc t) → (l : Coming t) → ahead t + l .d < w + MIN τ (own τ o p)
   few t prompt l =
-      let a = queued-most τ sane o run legal comp K p f w (enough .within) (l .s) (suc (l .d)) (l .short) in
+      let a = own-coming-most τ sane o run legal comp K p f w (enough .within) (l .s) (suc (l .d)) (l .short) in
       let b = coming-most τ sane o run legal comp K p f w (l .s) (suc (l .d)) (l .short) (λ u h. prompt u (omega (arith, l .now))) in
       omega (arith, l .fewer, enough .room)
 
@@ -139,7 +139,7 @@ module _ (τ : Table) (sane : Sane τ) (o : List ℕ) (ord : Order τ o) (run : 
       go (inr q) ih = let z = no-most τ o p x (T-not (own τ o p (x .row)) q) in omega (arith, ih (omega arith))
 
   coming-next : (t : ℕ) → Prompt τ sane o run legal comp K p f w (suc t) → Coming t → Coming (suc t)
-  unfolding left-ahead Turned coming queued
+  unfolding left-ahead Turned coming own-coming
   coming-next t prompt l = go (turned t)
     where
       rows : (x : Frame) → x ∈ settled τ o run t .waiting → x .row < τ .n
@@ -185,7 +185,7 @@ module _ (τ : Table) (sane : Sane τ) (o : List ℕ) (ord : Order τ o) (run : 
       ]
 
   coming-always : (t : ℕ) → Prompt τ sane o run legal comp K p f w t → Coming t
-  unfolding ahead coming queued fresh state join window
+  unfolding ahead coming own-coming fresh state join window
   coming-always zero prompt = record {
     s = 0;
     d = 0;

@@ -17,12 +17,13 @@ use Rattle.order.specs.Table.{Table, base}
 use Rattle.order.specs.Figures.{figure-climbed}
 use Rattle.order.specs.Orders.{mem, badEntry, resumes, Order, Together, own, above, below, FigureAt}
 use Rattle.order.specs.Split.{order-of, together-of}
+use Rattle.sums.specs.Columns.{at}
 use Rattle.bus.specs.Model.{Frame, Run, Sent, _∈_, during, frames, SentBy, SentAt, Apart, Spaced, Licensed, Legal, Sane}
 use Rattle.bus.specs.Spacing.{spaced-append}
 use Rattle.bus.specs.ByHand.{table, order, first, second, short, older, blocker, run, sent, log-by-hand}
 use Rattle.bus.specs.Kept.{kept}
 
--- ---- every table has a legal run
+-- ---- every sane table has a legal run
 
 module _ (τ : Table) where
   -- a frame of row k, queued at 0 after all its jitter, as long as it may be
@@ -135,7 +136,7 @@ unfolding frames
 legal = record {
   licensed = λ t. all-licensed run 0 t t (omega arith) (
     (ok blocker tt tt tt tt, tt),
-    ((ok older tt tt tt tt, (ok first tt tt tt tt, tt)), ((ok short tt tt tt tt, tt), (tt, (tt, (tt, (tt, (tt, (tt, (tt, (tt, ((ok second tt tt tt tt, tt), (tt, (tt, (tt, (tt, (tt, tt)))))))))))))))),
+    ((ok older tt tt tt tt, (ok first tt tt tt tt, tt)), ((ok short tt tt tt tt, tt), (tt, (tt, (tt, (tt, (tt, (tt, (tt, (tt, ((ok second tt tt tt tt, tt), (tt, (tt, (tt, (tt, (tt, (tt, (tt, (tt, (tt, tt)))))))))))))))))))),
   );
   spaced =
       spaced-by blocker (older ∷ first ∷ short ∷ second ∷ []) (λ e. absurd (omega arith), (λ e. absurd (omega arith), (λ e. absurd (omega arith), (λ e. absurd (omega arith), tt))))
@@ -161,10 +162,25 @@ pub figure-3 : FigureAt table order 3 21
 unfolding base demand over load ceil mem
 figure-3 = figure-climbed table (own table order 3) (above table order 3) (below table order 3) 2 refl (lit≤ tt)
 
--- what the theorem says of row 2 of the FIFO, queued at 1, whose figure is 16
-pub promised : SentBy table order run older 17
-promised = kept table sane order ordered together run legal 1 16 (lit< tt) figure-1 1 older (List·Memᴰ·head refl) tt (lit≤ tt)
+-- what the theorem says of each frame of the run: it is sent within the figure of its row
+abbrev pub figures : List ℕ
+figures = 7 ∷ 16 ∷ 16 ∷ 21 ∷ []
 
--- row 0, queued at 1, has the figure 7, which is up at 8. It was sent one bit time before that, and not sooner
-pub just : SentAt table order run first 7
-just = subst (λ (l : List Sent). sent first 7 ∈ l) (sym log-by-hand) (List·Memᴰ·tail (List·Memᴰ·tail (List·Memᴰ·tail (List·Memᴰ·head refl))))
+pub promised : (f : Frame) → f ∈ frames run → SentBy table order run f (f .queued + at figures (f .row))
+unfolding frames
+promised f m = each (λ x. SentBy table order run x (x .queued + at figures (x .row))) (blocker ∷ older ∷ first ∷ short ∷ second ∷ []) (by 3 21 figure-3 0 blocker (List·Memᴰ·head refl) (lit< tt) tt (lit≤ tt), (by 1 16 figure-1 1 older (List·Memᴰ·head refl) (lit< tt) tt (lit≤ tt), (by 0 7 figure-0 1 first (List·Memᴰ·tail (List·Memᴰ·head refl)) (lit< tt) tt (lit≤ tt), (by 1 16 figure-1 2 short (List·Memᴰ·head refl) (lit< tt) tt (lit≤ tt), (by 0 7 figure-0 11 second (List·Memᴰ·head refl) (lit< tt) tt (lit≤ tt), tt))))) f m
+  where
+    by : (p R : ℕ) → FigureAt table order p R → (q : ℕ) (x : Frame) → x ∈ during run q → p < 4 → Is (own table order p (x .row)) → q + R ≤ 21 → SentBy table order run x (q + R)
+    by p R figure q x i inside mine long = kept table sane order ordered together run legal p R inside figure q x i mine long
+
+-- row 0, queued at 1, has the figure 7, which is up at 8. It was sent one bit time before that, and at no other time
+pub just : (e : ℕ) → SentAt table order run first e → e ≡ 7
+just e m = go (subst (λ (l : List Sent). sent first e ∈ l) log-by-hand m)
+  where
+    go : sent first e ∈ (sent short 15 ∷ sent second 13 ∷ sent older 11 ∷ sent first 7 ∷ sent blocker 5 ∷ []) → e ≡ 7
+    go (List·Memᴰ·head q) = absurd (omega (arith, ap (λ (x : Sent). x .frame .row) q))
+    go (List·Memᴰ·tail (List·Memᴰ·head q)) = absurd (omega (arith, ap (λ (x : Sent). x .frame .queued) q))
+    go (List·Memᴰ·tail (List·Memᴰ·tail (List·Memᴰ·head q))) = absurd (omega (arith, ap (λ (x : Sent). x .frame .row) q))
+    go (List·Memᴰ·tail (List·Memᴰ·tail (List·Memᴰ·tail (List·Memᴰ·head q)))) = ap (λ (x : Sent). x .at) q
+    go (List·Memᴰ·tail (List·Memᴰ·tail (List·Memᴰ·tail (List·Memᴰ·tail (List·Memᴰ·head q))))) = absurd (omega (arith, ap (λ (x : Sent). x .frame .row) q))
+    go (List·Memᴰ·tail (List·Memᴰ·tail (List·Memᴰ·tail (List·Memᴰ·tail (List·Memᴰ·tail q))))) = elim q [ ]

@@ -21,7 +21,6 @@ pub record Allowed (words : List ℕ) (i : ℕ) : Type 0 where
   pub length-le : bitTimes (rowAt words i .length) ≤ 4096
   pub period-pos : 1 ≤ rowAt words i .period
   pub period-le : rowAt words i .period ≤ 1000000
-  pub deadline-pos : 1 ≤ rowAt words i .deadline
   pub deadline-le : rowAt words i .deadline ≤ rowAt words i .period
   pub jitter-le : rowAt words i .jitter ≤ rowAt words i .deadline
 

@@ -1,4 +1,4 @@
--- How many rows a table may have: the one definition, beside the one constant `LIMIT` of src/lib.rt.
+-- How many rows a table may have: the one definition, beside the one constant `LIMIT` of src/lib.rt. Definitions only.
 -- Assumes nothing.
 use Prim.Native.Nat.{ℕ}
 

@@ -1,5 +1,6 @@
 -- One row of the licence table, after document 01: which words are allowed, the record that a row is read into, its length C,
 -- its time allowed E and its band's key. Definitions only: what follows from them is in Laws.
+-- Assumes nothing.
 use Prim.Native.Nat.{ℕ, _+_, _-_, _*_, _/_}
 use mathlib.Core.Bool.{Bool, cond, not, _&&_}
 use mathlib.Core.List.{List}

@@ -43,7 +43,7 @@ pub data Case : Type 0 where
   finding : (table : List Line) (reply : Answer) (after : List ℕ) → Case
   length-of : (form bytes C : ℕ) → Case
 
--- what is lent for the answer: a place for each row, with a number that no answer has
+-- what is lent for the answer: a place for each row, with a number that no answer here has
 abbrev pub lent : List Line → List ℕ
 lent table = replicate (length table) 9999
 

@@ -55,8 +55,8 @@ FoundMeetsDeadlines = (words before after : List ℕ) (a : Answer) → Searched 
 
 module _ {words order : List ℕ} {room : ℕ} (known : Fine words order room) where
   -- the numbers of an accepted table are as the bus needs them
-  pub sane : Sane (tableOf words)
-  sane = record {
+  pub accepted-sane : Sane (tableOf words)
+  accepted-sane = record {
     period = λ k l. row-allowed words k (known .accepted .good k l) .period-pos;
     some-bits = λ k l. row-allowed words k (known .accepted .good k l) .length-pos;
     within = λ k l. let r = row-allowed words k (known .accepted .good k l) in omega (arith, r .deadline-le, r .jitter-le);
@@ -66,7 +66,7 @@ module _ {words order : List ℕ} {room : ℕ} (known : Fine words order room) w
   row-kept : (run : Run) → Legal (tableOf words) run → (p R : ℕ) → p < rows words → FigureAt (tableOf words) order p R
       → (q : ℕ) (f : Frame) → f ∈ during run q → at order p ≡ f .row → q + R ≤ length run → SentBy (tableOf words) order run f (q + R)
   row-kept run legal p R inside figure q f m stands long =
-      kept (tableOf words) sane order (known .order) (known .together) run legal p R (omega (arith, known .count)) figure q f m
+      kept (tableOf words) accepted-sane order (known .order) (known .together) run legal p R (omega (arith, known .count)) figure q f m
       (band-intro (tableOf words) (tableOf words .key (at order p)) (f .row) (ap (tableOf words .key) (sym stands))) long
 
   passing-meets : AllPass (tableOf words) order → MeetsDeadlines words order

@@ -50,9 +50,10 @@ WritesNothing = (a : Answer) → (JudgedA (lent tableA) a → ⊥) × (SearchedB
 abbrev pub GivesFixedFigures : Type 0
 GivesFixedFigures = (fixed : List ℕ) (a a′ : Answer) → JudgedC fixed a → JudgedD fixed a′ → ⊥
 
--- One that settles the whole order at the first place, untested: row 0 passes at the lowest place, and the others go above it as they stand.
+-- One that settles the whole order at the first place, untested: whatever it settles on but the rule's own. For example 1 2 3 0, with row 0 at the lowest
+-- place, where it passes, and the others above it as they stand: an order that passes, and not the one that the rule gives.
 abbrev pub SettlesUntested : Type 0
-SettlesUntested = (a : Answer) → SearchedB (1 ∷ 2 ∷ 3 ∷ 0 ∷ []) a → ⊥
+SettlesUntested = (after : List ℕ) (a : Answer) → (after ≡ 3 ∷ 1 ∷ 2 ∷ 0 ∷ [] → ⊥) → SearchedB after a → ⊥
 
 -- One that invents the number tried, whichever it is but the right one.
 abbrev pub InventsTried : Type 0
@@ -96,7 +97,7 @@ pub gives-fixed-figures : GivesFixedFigures
 gives-fixed-figures fixed a a′ c d = omega (arith, ap (λ (x : List ℕ). at x 0) (sym (only-c fixed a c .1) ∙ only-d fixed a′ d .1))
 
 pub settles-untested : SettlesUntested
-settles-untested a j = omega (arith, ap (λ (x : List ℕ). at x 0) (only-b (1 ∷ 2 ∷ 3 ∷ 0 ∷ []) a j .1))
+settles-untested after a n j = n (only-b after a j .1)
 
 pub invents-tried : InventsTried
 invents-tried after tried n j = n (ap (λ (x : Answer). x .first) (only-b after (answer 102 tried 0) j .0))

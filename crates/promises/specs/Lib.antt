@@ -5,3 +5,4 @@ pub mod Worked
 pub mod Cases
 pub mod Idlers
 pub mod Shown
+pub mod Priority

@@ -23,42 +23,42 @@ use Rattle.intake.specs.Laws.{replied-refused, replied-answered}
 
 -- ---- a band: its figure, or that it is late
 
-abbrev pub Verdict : (F : ℕ → ℕ) (m e : ℕ) → Type 0
-Verdict F m e = ((R : ℕ) × FigureIs F m e R) ⊎ (Fits F m e → ⊥)
+abbrev pub Reckoned : (F : ℕ → ℕ) (m e : ℕ) → Type 0
+Reckoned F m e = ((R : ℕ) × FigureIs F m e R) ⊎ (Fits F m e → ⊥)
 
 -- F is taken from w on until it stays, or is past what is allowed
-unfoldable pub climb : (F : ℕ → ℕ) (m e : ℕ) → Grows F → (fuel w : ℕ) → e < w + fuel → OnWay F w → Verdict F m e
+unfoldable pub climb : (F : ℕ → ℕ) (m e : ℕ) → Grows F → (fuel w : ℕ) → e < w + fuel → OnWay F w → Reckoned F m e
 climb F m e grows zero w h way = inr (λ x. let q = way .low (x .w) (le-of-eq (x .solves)) in omega (arith, x .within))
 climb F m e grows (suc fuel) w h way = go (decLe (w + m) e) (ℕ-discrete (F w) w) (λ n. climb F m e grows fuel (F w) (let r = way .rises in omega arith) (one-step F grows way))
   where
-    go : Dec (w + m ≤ e) → Dec (F w ≡ w) → ((F w ≡ w → ⊥) → Verdict F m e) → Verdict F m e
+    go : Dec (w + m ≤ e) → Dec (F w ≡ w) → ((F w ≡ w → ⊥) → Reckoned F m e) → Reckoned F m e
     go (no n) d on = inr (λ x. let q = way .low (x .w) (le-of-eq (x .solves)) in omega (arith, x .within))
     go (yes l) (yes q) on = inl (w + m, record { w = w; least = arrived F way q; is = refl; within = l })
     go (yes l) (no n) on = on n
 
-unfoldable pub reckon : (τ : Table) (own above below : Mask) → Verdict (F τ own above below) (MIN τ own) (leastE τ own)
+unfoldable pub reckon : (τ : Table) (own above below : Mask) → Reckoned (F τ own above below) (MIN τ own) (leastE τ own)
 reckon τ own above below =
     climb (F τ own above below) (MIN τ own) (leastE τ own) (demand-grows _ _ _ _ _ _) (suc (leastE τ own)) 0 (omega arith) (from-below (F τ own above below) 0 (λ v. zero-le))
 
 module _ {F : ℕ → ℕ} {m e : ℕ} where
-  abbrev pub isLate : Verdict F m e → Bool
+  abbrev pub isLate : Reckoned F m e → Bool
   isLate (inl x) = false
   isLate (inr x) = true
 
-  pub is-late : (v : Verdict F m e) → Is (isLate v) → Fits F m e → ⊥
+  pub is-late : (v : Reckoned F m e) → Is (isLate v) → Fits F m e → ⊥
   is-late (inl x) h = absurd h
   is-late (inr x) h = x
 
-  pub not-late : (v : Verdict F m e) → (Is (isLate v) → ⊥) → Fits F m e
-  not-late (inl x) h = figure-fits F m e (x .1)
-  not-late (inr x) h = absurd (h tt)
+  pub fits-else : (v : Reckoned F m e) → (Is (isLate v) → ⊥) → Fits F m e
+  fits-else (inl x) h = figure-fits F m e (x .1)
+  fits-else (inr x) h = absurd (h tt)
 
   -- does x stand for the verdict: the figure, or 0?
-  abbrev pub stands-for : Verdict F m e → ℕ → Bool
+  abbrev pub stands-for : Reckoned F m e → ℕ → Bool
   stands-for (inl x) y = eqb y (x .0)
   stands-for (inr x) y = eqb y 0
 
-  pub stood-for : (v : Verdict F m e) (y : ℕ) → Is (stands-for v y) → FigureIs F m e y ⊎ ((Fits F m e → ⊥) × (y ≡ 0))
+  pub stood-for : (v : Reckoned F m e) (y : ℕ) → Is (stands-for v y) → FigureIs F m e y ⊎ ((Fits F m e → ⊥) × (y ≡ 0))
   stood-for (inl x) y h = inl (subst (λ (z : ℕ). FigureIs F m e z) (sym (eqb→eq y (x .0) h)) (x .1))
   stood-for (inr x) y h = inr (x, eqb→eq y 0 h)
 

@@ -16,7 +16,7 @@ use Rattle.intake.specs.Answer.{answer}
 use Rattle.judge.specs.Judged.{Judged}
 use Rattle.judge.specs.Outcome.{passed-means}
 use Rattle.promises.specs.Cases.{wordsOf, lent, tableC, as-written}
-use Rattle.promises.specs.Demand3.{sane, passed-is-kept}
+use Rattle.promises.specs.Demand3.{accepted-sane, passed-is-kept}
 
 abbrev words : List ℕ
 words = wordsOf tableC
@@ -38,7 +38,7 @@ abbrev run : Run
 run = burst τ 340
 
 pub legal : Legal τ run
-legal = burst-legal τ (sane (passed-means words order (lent tableC) figures (answer 100 0 0) passed refl .known)) 340
+legal = burst-legal τ (accepted-sane (passed-means words order (lent tableC) figures (answer 100 0 0) passed refl .known)) 340
 
 -- the run lasts until every figure is up
 enough : (k : ℕ) → k < 3 → 0 + at figures k ≤ length run

@@ -27,7 +27,7 @@ use Rattle.judge.specs.Judged.{refusal, AllPassed, SomeLate, Answered, Judged}
 use Rattle.finder.specs.Placing.{Ending, found, none, unplaced, placing, free, candidate, Stands, Finds, done, place, stuck}
 use Rattle.finder.specs.Searched.{Searched}
 use Rattle.finder.specs.Searched.{Answered as Sought}
-use Rattle.promises.specs.Reckon.{Verdict, reckon, isLate, is-late, not-late, stands-for, stood-for, every, every-is, same-answer, same-answer-is, same-list, same-list-is, replies, replied}
+use Rattle.promises.specs.Reckon.{Reckoned, reckon, isLate, is-late, fits-else, stands-for, stood-for, every, every-is, same-answer, same-answer-is, same-list, same-list-is, replies, replied}
 
 and-both : (a b : Bool) → Is (a && b) → Is a × Is b
 and-both a b h = (and-left a b h, and-right a b h)
@@ -35,7 +35,7 @@ and-both a b h = (and-left a b h, and-right a b h)
 -- ---- judging
 
 module _ (τ : Table) (order : List ℕ) where
-  abbrev pub verdictAt : (p : ℕ) → Verdict (F τ (own τ order p) (above τ order p) (below τ order p)) (MIN τ (own τ order p)) (leastE τ (own τ order p))
+  abbrev pub verdictAt : (p : ℕ) → Reckoned (F τ (own τ order p) (above τ order p) (below τ order p)) (MIN τ (own τ order p)) (leastE τ (own τ order p))
   verdictAt p = reckon τ (own τ order p) (above τ order p) (below τ order p)
 
   -- the answer to an order with the first late place there
@@ -93,8 +93,8 @@ module _ (τ : Table) (order : List ℕ) where
           go (no k) = List·getD-eq-default after 0 (omega (arith, long)) ∙ sym (List·getD-eq-default before 0 (omega arith))
 
       first : (r : Place) → Lowest (τ .n) late r → a ≡ saying r → AllPassed τ order a ⊎ SomeLate τ order a
-      first nowhere (is-none none-late) e = inl (record { says = e; passing = λ p l. not-late (verdictAt p) (none-late p l) })
-      first (at k) (is-at l t sooner) e = inr (record { place = k; says = e; inside = l; late = is-late (verdictAt k) t; earlier = λ p i. not-late (verdictAt p) (sooner p i) })
+      first nowhere (is-none none-late) e = inl (record { says = e; passing = λ p l. fits-else (verdictAt p) (none-late p l) })
+      first (at k) (is-at l t sooner) e = inr (record { place = k; says = e; inside = l; late = is-late (verdictAt k) t; earlier = λ p i. fits-else (verdictAt p) (sooner p i) })
 
 -- the words, the order, the list before and after, and the answer are as the statement says
 abbrev pub judges : (words order before after : List ℕ) (a : Answer) → Bool
@@ -125,7 +125,7 @@ abbrev pub is? : (b : Bool) → Dec (Is b)
 is? true = yes tt
 is? false = no (λ x. x)
 
-abbrev pub fits? : {F : ℕ → ℕ} {m e : ℕ} → Verdict F m e → Dec (Fits F m e)
+abbrev pub fits? : {F : ℕ → ℕ} {m e : ℕ} → Reckoned F m e → Dec (Fits F m e)
 fits? {F} {m} {e} (inl x) = yes (figure-fits F m e (x .1))
 fits? (inr x) = no x
 

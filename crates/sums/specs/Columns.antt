@@ -1,4 +1,4 @@
--- Numbers of rows as code holds them: a list for each of C, T and J.
+-- Numbers in lists: the number at a place, and the numbers of rows as code holds them, a list for each of C, T and J. Definitions only.
 -- Assumes nothing.
 use Prim.Native.Nat.{ℕ, _≤_, _<_}
 use mathlib.Core.List.{List}

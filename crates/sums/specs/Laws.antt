@@ -65,14 +65,8 @@ over-mono op mono (suc n) m m′ f f′ s h =
     mono _ _ _ _ (over-mono op mono n m m′ f f′ (λ k l. s k (omega arith)) (λ k l. h k (omega arith)))
     (cond-le (m n) (m′ n) (s n (le-refl (suc n))) (h n (le-refl (suc n))))
 
-pub max-le-max : Monotone max
-max-le-max a b c d h k = omega arith
-
 pub sum-mono : (n : ℕ) (m m′ : Mask) (f f′ : ℕ → ℕ) → ((k : ℕ) → k < n → Is (m k) → Is (m′ k)) → ((k : ℕ) → k < n → Is (m k) → f k ≤ f′ k) → sumOver n m f ≤ sumOver n m′ f′
 sum-mono = over-mono _+_ (λ a b c d h k. add-le-add h k)
-
-pub max-mono : (n : ℕ) (m m′ : Mask) (f f′ : ℕ → ℕ) → ((k : ℕ) → k < n → Is (m k) → Is (m′ k)) → ((k : ℕ) → k < n → Is (m k) → f k ≤ f′ k) → maxOver n m f ≤ maxOver n m′ f′
-max-mono = over-mono max max-le-max
 
 -- ---- rows in any order, for an op that does not care which of two comes first
 
