@@ -38,7 +38,9 @@ the file
   period    1 to 1000000 bit times.
   deadline  From 1 bit time to the period.
   jitter    From 0 to the deadline.
-  A file has 1 to 64 messages. Blank lines and lines that start with # are skipped.
+  A file has 1 to 64 messages. Blank lines and lines that start with # are skipped. Blanks around
+  a cell do not matter. Capital or small letters do not matter in the header, in the queue and in
+  the words std, ext and bits; in names they do.
 
 the answer
   A table, highest priority first, then the verdict.
@@ -49,7 +51,21 @@ the answer
   With a bit rate, the same three follow in milliseconds.
   'found' gives an order that can be used as ORDER, and how many bands were tried; a band is one
   priority message, or all messages of one FIFO. 'no order' says that no order passes.
-  With --json, the same is one JSON object on one line.
+  With --json, the same is one JSON object on one line, and nothing is on standard error.
+
+the JSON object
+  The key verdict comes first; its values, each with the other keys:
+  passed      file, bitrate, order, messages
+  late        file, bitrate, order, late_count, first (name, place), messages
+  found       file, bitrate, order, tried, messages
+  no order    number, message, file, bitrate, unplaced, tried
+  refused     number, message, file, line, column: a refusal of the library, by its number
+  unreadable  message, file, line, column: a file or an ORDER that cannot be read
+  usage       message: a command line that cannot be followed
+  Each of messages, highest priority first, has name, row, line, queue, late, figure, allowed, slack
+  and, with a bit rate, figure_ms, allowed_ms, slack_ms. A late one has null for figure and slack.
+  Without a bit rate, bitrate is null. Where there is no line or no column to name, the key is
+  left out. Places and rows count from 0, lines from 1.
 
 exit status
   0  passed, or found

@@ -8,6 +8,7 @@
 pub mod answer;
 pub mod args;
 mod cells;
+mod columns;
 pub mod fault;
 mod help;
 pub mod json;
@@ -94,9 +95,11 @@ fn complaint(file: &str, fault: &Fault) -> String {
     format!("{}{between}{fault}\n", Shown(file))
 }
 
-/// A program that asked for JSON finds an object as ever; a person finds the usage.
+/// A program that asked for JSON finds an object as ever, and no more; a person finds the usage.
 fn misused(usage: &Usage) -> Said {
-    let out = if usage.json { json::misused(&usage.message) } else { String::new() };
-    let err = format!("telhavina: {}\n{}", usage.message, help::USAGE);
+    let (out, err) = match usage.json {
+        true => (json::misused(&usage.message), String::new()),
+        false => (String::new(), format!("telhavina: {}\n{}", usage.message, help::USAGE)),
+    };
     Said { out, err, status: REFUSED }
 }

@@ -5,6 +5,8 @@ use crate::fault::{Column, Fault};
 const BYTE_ORDER_MARK: &[u8] = b"\xEF\xBB\xBF";
 /// How UTF-16 starts, in both byte orders.
 const WIDE: [&[u8]; 2] = [b"\xFF\xFE", b"\xFE\xFF"];
+/// What to do about a CR.
+const SAVE_WITH_LF: &str = "save the file with LF line ends";
 
 /// One line of a file.
 #[derive(Debug, Clone, Copy, PartialEq, Eq)]
@@ -25,6 +27,11 @@ impl Line<'_> {
     pub fn is_blank(&self) -> bool {
         trimmed(self.text).is_empty()
     }
+
+    /// Whether there is nothing in its cells.
+    pub fn is_hollow(&self) -> bool {
+        self.text.chars().all(|c| c == ',' || c == ' ')
+    }
 }
 
 /// The text without the blanks around it. No other kind of blank gets past [`lines`].
@@ -34,14 +41,22 @@ pub fn trimmed(text: &str) -> &str {
 
 /// The lines of these bytes, each of them or what is wrong with it.
 pub fn lines(bytes: &[u8]) -> impl Iterator<Item = Result<Line<'_>, Fault>> {
+    let ends = if bytes.contains(&b'\n') { Ends::Lf } else { Ends::None };
     let bytes = bytes.strip_suffix(b"\n").unwrap_or(bytes);
     bytes
         .split(|&byte| byte == b'\n')
         .zip(1..)
-        .map(|(bytes, number)| line(bytes, number).map_err(|fault| fault.on_line(number)))
+        .map(move |(bytes, number)| line(bytes, number, ends).map_err(|f| f.on_line(number)))
 }
 
-fn line(bytes: &[u8], number: usize) -> Result<Line<'_>, Fault> {
+/// Whether any line of a file ends in LF. If none does, a CR is an end of line of old.
+#[derive(Debug, Clone, Copy, PartialEq, Eq)]
+enum Ends {
+    Lf,
+    None,
+}
+
+fn line(bytes: &[u8], number: usize, ends: Ends) -> Result<Line<'_>, Fault> {
     if number == 1 {
         refuse_marks(bytes)?;
     }
@@ -53,17 +68,23 @@ fn line(bytes: &[u8], number: usize) -> Result<Line<'_>, Fault> {
             return Err(at(before, fault));
         }
     };
-    match text.char_indices().find_map(|(at, c)| Some((at, strange(c)?))) {
-        None => Ok(Line { number, text }),
+    let Some((place, c, what)) =
+        text.char_indices().find_map(|(place, c)| Some((place, c, strange(c)?)))
+    else {
+        return Ok(Line { number, text });
+    };
+    let before = bytes.get(..place).unwrap_or(bytes);
+    let not_allowed =
+        |expected| at(before, Fault::new(format!("{what} is not allowed: {expected}")));
+    Err(match (c, ends) {
         // A CR at the end is the end of a line, not a part of the last column.
-        Some((at, _)) if text.get(at..) == Some("\r") => {
-            Err(Fault::new("the line ends in CR LF: save the file with LF line ends"))
+        ('\r', Ends::None) => Fault::new(format!("the line ends in CR alone: {SAVE_WITH_LF}")),
+        ('\r', Ends::Lf) if text.get(place..) == Some("\r") => {
+            Fault::new(format!("the line ends in CR LF: {SAVE_WITH_LF}"))
         }
-        Some((place, what)) => Err(at(
-            bytes.get(..place).unwrap_or(bytes),
-            Fault::new(format!("{what} is not allowed: expected plain text and blanks")),
-        )),
-    }
+        ('\r', Ends::Lf) => not_allowed(SAVE_WITH_LF),
+        _ => not_allowed("expected plain text and blanks"),
+    })
 }
 
 /// Some programs put such marks before a text; they would become part of what is read first.
@@ -134,6 +155,18 @@ mod tests {
         assert_eq!((fault.line, fault.column), (Some(1), Some(Column::Name)));
         // Past the last column there is none to name.
         assert_eq!(first_fault(b",,,,,,\x07").column, None);
+    }
+
+    #[test]
+    fn line_ends() {
+        let said = |bytes| first_fault(bytes).to_string();
+        let save = "save the file with LF line ends";
+        for bytes in [b"a,b\rc,d\r".as_slice(), b"# a\rb,c", b"a,b\r"] {
+            assert_eq!(said(bytes), format!("line 1: the line ends in CR alone: {save}"));
+        }
+        assert_eq!(said(b"a,b\r\nc"), format!("line 1: the line ends in CR LF: {save}"));
+        let inside = format!("line 2, column queue: a CR (carriage return) is not allowed: {save}");
+        assert_eq!(said(b"a\nb,c\rd\n"), inside);
     }
 
     #[test]

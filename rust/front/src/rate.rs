@@ -7,6 +7,8 @@ use crate::fault::Fault;
 use crate::lines::{trimmed, Line};
 
 const WORD: &str = "bitrate";
+/// What others write for it.
+const OTHER_WORD: &str = "baud";
 
 /// Bits per second, at least one.
 #[derive(Debug, Clone, Copy, PartialEq, Eq)]
@@ -28,15 +30,19 @@ impl Rate {
     pub(crate) fn of_comment(line: Line) -> Result<Option<Rate>, Fault> {
         let letters = line.text.chars().filter(|c| c.is_alphanumeric());
         let squeezed: String = letters.map(|c| c.to_ascii_lowercase()).collect();
+        if line.number == 1 && squeezed.starts_with(OTHER_WORD) {
+            return Err(Fault::new(format!(
+                "a bit rate is not told by `{OTHER_WORD}`: {}; a comment that tells none begins \
+                 with another word",
+                expected(line.text)
+            )));
+        }
         let Some(after) = squeezed.strip_prefix(WORD) else { return Ok(None) };
         let is_rate = line.number == 1 || after.starts_with(|c: char| c.is_ascii_digit());
         match (is_rate, line.number, Rate::of_text(line.text)) {
             (false, ..) => Ok(None),
             (true, 1, Some(rate)) => Ok(Some(rate)),
-            (true, 1, None) => Err(Fault::new(
-                "expected `# bitrate N` with N bits per second, a whole number from 1 to \
-                 4294967295, and nothing else on the line",
-            )),
+            (true, 1, None) => Err(Fault::new(expected(line.text))),
             _ => Err(Fault::new(
                 "a bit rate is told on the first line of the file only: move it there, or begin \
                  this comment with another word",
@@ -50,6 +56,16 @@ impl Rate {
         let (word, number) = text.split_once(' ')?;
         let number = whole(trimmed(number)).ok()?;
         word.eq_ignore_ascii_case(WORD).then(|| Rate::new(number))?
+    }
+}
+
+/// What to write where this text was meant for a rate. Spreadsheets fill it up with commas.
+fn expected(text: &str) -> String {
+    let expected = "expected `# bitrate N` with N bits per second, a whole number from 1 to \
+                    4294967295, and nothing else on the line";
+    match trimmed(text).ends_with(',') {
+        true => format!("{expected} (remove every comma at its end)"),
+        false => expected.to_string(),
     }
 }
 
@@ -103,5 +119,23 @@ mod tests {
         assert_eq!(comment(2, "# bitrate 250000"), Err(2));
         assert_eq!(comment(2, "# bitrate: 250000"), Err(2));
         assert_eq!(comment(2, "# bitrate of the deck bus"), Ok(None));
+    }
+
+    #[test]
+    fn another_word_for_it_is_a_fault() {
+        for text in ["# baud rate 250000", "#baudrate 250000", "# Baud", "## BAUD-RATE: 250k"] {
+            assert_eq!(comment(1, text), Err(1), "{text}");
+        }
+        assert_eq!(comment(1, "# the baud rate"), Ok(None));
+        assert_eq!(comment(2, "# baud rate of the deck bus"), Ok(None));
+    }
+
+    #[test]
+    fn commas_at_the_end_are_named() {
+        let words = |text| Rate::of_comment(Line { number: 1, text }).expect_err(text).message;
+        for text in ["# bitrate 250000,,,,,", "# bitrate 250000, , ", "# baud 250000,"] {
+            assert!(words(text).contains("remove every comma at its end"), "{text}");
+        }
+        assert!(!words("# bitrate 250,000").contains("remove"));
     }
 }

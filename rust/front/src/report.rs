@@ -18,6 +18,11 @@ const NOT_LATE: &str = "  ";
 /// A longer name stands out to the right, rather than pushing all the others that far.
 const WIDEST: usize = 200;
 
+/// Where there is no order, there is no table to go by: what gives one.
+const NEXT_STEP: &str =
+    "next: telhavina judge TABLE.csv [ORDER] shows which messages are late, and \
+                         what each is allowed";
+
 /// The answer on the table of this file.
 pub struct Report<'a> {
     /// The name of the file.
@@ -87,7 +92,7 @@ impl Report<'_> {
             }
             Verdict::NoOrder { unplaced, tried } => {
                 let bands = count(unplaced, "band");
-                writeln!(f, "no order: {bands} cannot be placed, {tried} tried")
+                writeln!(f, "no order: {bands} cannot be placed, {tried} tried\n{NEXT_STEP}")
             }
         }
     }
@@ -134,7 +139,7 @@ fn aligned(cells: &[String], widths: &[usize]) -> String {
 #[cfg(test)]
 mod tests {
     use super::Report;
-    use crate::answer::judge;
+    use crate::answer::{find, judge};
     use crate::table::read;
 
     fn shown(text: &str) -> String {
@@ -154,6 +159,20 @@ mod tests {
              \x20 Kühlraum    0  priority      20      100     80\n\
              \x20 Ø           1  priority      30       39      9\n\
              passed: every message is sent within its time\n"
+        );
+    }
+
+    #[test]
+    fn no_order_is_not_the_last_word() {
+        let text = "name,queue,length,period,deadline,jitter\nA,priority,bits 10,19,19,0\n";
+        let table = read(text.as_bytes()).expect("a table");
+        let answer = find(&table).expect("an answer");
+        assert_eq!(
+            Report { file: "a.csv", table: &table, answer: &answer }.to_string(),
+            "a.csv: 1 message, times in bit times\n\
+             no order: 1 band cannot be placed, 1 tried\n\
+             next: telhavina judge TABLE.csv [ORDER] shows which messages are late, and what each \
+             is allowed\n"
         );
     }
 

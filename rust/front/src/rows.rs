@@ -3,10 +3,11 @@
 use std::collections::BTreeMap;
 
 use crate::cells::{length, queue, time};
+use crate::columns::{is_name, of_header, of_message};
 use crate::fault::{Column, Fault};
-use crate::lines::{lines, trimmed, Line};
+use crate::lines::{lines, Line};
 use crate::rate::Rate;
-use crate::shown::{count, Quoted};
+use crate::shown::Quoted;
 use crate::table::{Message, Table};
 
 /// The table in these bytes of a file, or what is wrong with the first line that is not right.
@@ -14,7 +15,7 @@ pub fn read(bytes: &[u8]) -> Result<Table, Fault> {
     let mut rows = Rows::default();
     for line in lines(bytes) {
         let line = line?;
-        rows.take(line).map_err(|fault| fault.on_line(line.number))?;
+        rows.take(line).map_err(|fault| on_line(fault, line))?;
     }
     if bytes.is_empty() {
         return Err(missing("the file is empty").on_line(1));
@@ -80,16 +81,26 @@ impl Rows {
     }
 }
 
+/// The fault on this line. Spreadsheets write a row with nothing in it as commas: whatever is wrong
+/// with those, nothing is lost without them.
+fn on_line(fault: Fault, line: Line) -> Fault {
+    let fault = fault.on_line(line.number);
+    if !line.is_hollow() {
+        return fault;
+    }
+    let way_out = "all cells of this line are empty: it can be deleted";
+    Fault { message: format!("{}; {way_out}", fault.message), ..fault }
+}
+
 fn missing(what: &str) -> Fault {
     Fault::new(format!("{what}: expected `{}` and a line for each message", Column::HEADER))
 }
 
 fn header(text: &str) -> Result<(), Fault> {
     let expected = format!("expected the header line `{}` before the messages", Column::HEADER);
-    let cells = cells(text)
+    let cells = of_header(text)
         .map_err(|fault| Fault { message: format!("{expected}: {}", fault.message), ..fault })?;
-    let wrong =
-        Column::ALL.iter().zip(cells).find(|(c, cell)| !cell.eq_ignore_ascii_case(c.name()));
+    let wrong = Column::ALL.iter().zip(cells).find(|(column, cell)| !is_name(cell, column));
     match wrong {
         None => Ok(()),
         Some((&column, cell)) => {
@@ -100,7 +111,7 @@ fn header(text: &str) -> Result<(), Fault> {
 }
 
 fn message(line: Line, rate: Option<Rate>) -> Result<Message, Fault> {
-    let cells = cells(line.text)?;
+    let cells = of_message(line.text)?;
     let [name_cell, queue_cell, length_cell, period, deadline, jitter] = cells;
     Ok(Message {
         name: name(name_cell)?,
@@ -112,31 +123,6 @@ fn message(line: Line, rate: Option<Rate>) -> Result<Message, Fault> {
         jitter: time(jitter, rate, Column::Jitter)?,
         written: cells.map(str::to_string),
     })
-}
-
-/// The six cells of a line.
-fn cells(text: &str) -> Result<[&str; 6], Fault> {
-    let cells: Vec<&str> = text.split(',').map(trimmed).collect();
-    let quoted = Column::ALL.iter().zip(&cells).find(|(_, cell)| cell.contains('"'));
-    if let Some((&column, _)) = quoted {
-        let message = "quotes are not allowed: expected the plain text, which cannot hold a comma";
-        return Err(Fault::new(message).in_column(column));
-    }
-    <[&str; 6]>::try_from(cells).map_err(|cells| wrong_number(text, cells.len()))
-}
-
-fn wrong_number(text: &str, found: usize) -> Fault {
-    let hint = match found {
-        1 if text.contains(';') => ": put commas between them, not semicolons",
-        7.. => ": a name holds no comma, and decimals follow a point",
-        _ => "",
-    };
-    let found_columns = count(found, "column");
-    let fault = Fault::new(format!("{found_columns}, expected 6 ({}){hint}", Column::HEADER));
-    match Column::ALL.get(found) {
-        Some(&column) => fault.in_column(column),
-        None => fault,
-    }
 }
 
 fn name(cell: &str) -> Result<String, Fault> {
@@ -243,6 +229,24 @@ mod tests {
             let text = format!("{HEADER}Z,priority,std 8,1000,1000,0\n\n{row}\n");
             assert_eq!(place(&text), (Some(4), column), "{row}");
         }
+    }
+
+    #[test]
+    fn a_line_of_empty_cells_can_be_deleted() {
+        let way_out = "; all cells of this line are empty: it can be deleted";
+        let rows = [
+            (",,,,,", Some(Column::Name)),
+            (" , ,,,, ", Some(Column::Name)),
+            (",,", Some(Column::Period)),
+            (",,,,,,,", None),
+        ];
+        for (row, column) in rows {
+            let text = format!("{HEADER}{row}\n");
+            assert_eq!(place(&text), (Some(2), column), "{row}");
+            assert!(fault(&text).message.ends_with(way_out), "{row}");
+        }
+        assert!(fault(&format!(",,,,,\n{HEADER}")).message.ends_with(way_out));
+        assert!(!fault(&format!("{HEADER},,,,,0\n")).message.contains("deleted"));
     }
 
     // The first bad line is reported, whatever is bad further down.

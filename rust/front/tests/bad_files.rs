@@ -103,7 +103,14 @@ fn headers() {
     let fewer = header("name,queue,length,period,deadline");
     unreadable("fewer.csv", fewer.as_bytes(), 2, Some("jitter"), &["5 columns, expected 6"]);
     let more = header("name,queue,length,period,deadline,jitter,note");
-    unreadable("more.csv", more.as_bytes(), 2, None, &["7 columns, expected 6"]);
+    let remove = ["7 columns, expected 6", ": remove the column `note`"];
+    unreadable("more.csv", more.as_bytes(), 2, None, &remove);
+    let empty = header("name,queue,length,period,deadline,jitter,,");
+    let remove = ["8 columns, expected 6", ": remove the empty columns at the end"];
+    unreadable("more.csv", empty.as_bytes(), 2, None, &remove);
+    // However many there are, and however long their names, the line can be read.
+    let many = header(&format!("{}{}", HEADER.trim(), format!(",{}", "x".repeat(99)).repeat(99)));
+    unreadable("more.csv", many.as_bytes(), 2, None, &["105 columns", "xxx...`, ..."]);
     let semicolons = header("name;queue;length;period;deadline;jitter");
     unreadable("semicolons.csv", semicolons.as_bytes(), 2, Some("queue"), &["not semicolons"]);
     let quoted = header("\"name\",queue,length,period,deadline,jitter");
@@ -119,6 +126,10 @@ fn not_plain_text() {
     unreadable("wide_bare.csv", &wide, 1, Some("name"), &["a NUL character"]);
     let dos = format!("{HEADER}{GOOD}").replace('\n', "\r\n");
     unreadable("dos.csv", dos.as_bytes(), 1, None, &["CR LF", "LF line ends"]);
+    let old = dos.replace('\n', "");
+    unreadable("old.csv", old.as_bytes(), 1, None, &["CR alone", "LF line ends"]);
+    let old = format!("# bitrate 250000\r{old}");
+    unreadable("old.csv", old.as_bytes(), 1, None, &["CR alone", "LF line ends"]);
     let latin = [HEADER.as_bytes(), b"K\xFChlraum,priority,ext 8,9,9,0\n"].concat();
     unreadable("latin.csv", &latin, 2, Some("name"), &["not UTF-8"]);
     let late = [HEADER.as_bytes(), GOOD.as_bytes(), b"A,priority,ext 8,9,9\xC3,0\n"].concat();
@@ -139,7 +150,7 @@ fn characters_that_cannot_be_seen() {
         ("\u{200b}", "the invisible character U+200B"),
         ("\u{202e}", "the invisible character U+202E"),
         ("\u{feff}", "the invisible character U+FEFF"),
-        ("\r", "a CR (carriage return)"),
+        ("\r", "a CR (carriage return) is not allowed: save the file with LF line ends"),
     ];
     for (c, what) in cases {
         unreadable_row("unseen.csv", &format!("A,prio{c}rity,std 8,9,9,0"), "queue", &[what]);
@@ -172,6 +183,11 @@ fn cells() {
     unreadable_row("row.csv", "A,priority,std 8,2.5,2,0", "period", &["`2.5`", "# bitrate"]);
     let many = format!("{HEADER}{GOOD}A,priority,std 8,2,5,2,0\n");
     unreadable("many.csv", many.as_bytes(), 3, None, &["7 columns, expected 6", "a point"]);
+    let many = format!("{HEADER}{GOOD}A,priority,std 8,9,9,0,,,\n");
+    let remove = ["9 columns, expected 6", ": remove the empty columns at the end"];
+    unreadable("many.csv", many.as_bytes(), 3, None, &remove);
+    let delete = ["the cell is empty: expected a name; ", "this line are empty: it can be deleted"];
+    unreadable_row("row.csv", ",,,,,", "name", &delete);
     // What is quoted of a cell is no longer than a person would read.
     unreadable_row("row.csv", &format!("A,{},,,,", "x".repeat(100_000)), "queue", &["xxx...`"]);
 }
@@ -184,6 +200,13 @@ fn bit_rates() {
         let text = format!("{line}\n{HEADER}{GOOD}");
         unreadable("rate.csv", text.as_bytes(), 1, None, &["# bitrate N", "1 to 4294967295"]);
     }
+    for line in ["# baud rate 250000", "# baudrate 250000", "#Baud-Rate: 250k", "# BAUD"] {
+        let text = format!("{line}\n{HEADER}{GOOD}");
+        let parts = ["not told by `baud`", "# bitrate N", "1 to 4294967295", "another word"];
+        unreadable("rate.csv", text.as_bytes(), 1, None, &parts);
+    }
+    let commas = format!("# bitrate 250000,,,,,\n{HEADER}{GOOD}");
+    unreadable("rate.csv", commas.as_bytes(), 1, None, &["# bitrate N", "remove every comma"]);
     let second = format!("# the deck\n# bitrate 250000\n{HEADER}{GOOD}");
     unreadable("rate.csv", second.as_bytes(), 2, None, &["on the first line"]);
     let row = |times: &str| format!("# bitrate 250000\n{HEADER}A,priority,std 8,{times}\n");

@@ -98,7 +98,9 @@ fn both_say_the_same() {
         let (text, json) = (stored(&format!("{name}.txt")), stored(&format!("{name}.json")));
         let object = json::read(&json);
         let Some(messages) = object.find("messages") else {
-            assert_eq!(text.lines().count(), 2, "{name}");
+            // What it is about, the verdict, and what to do next.
+            assert_eq!(text.lines().count(), 3, "{name}");
+            assert!(text.contains("\nnext: telhavina judge TABLE.csv [ORDER] shows "), "{name}");
             continue;
         };
         let lines: Vec<&str> = text.lines().skip(2).collect();

@@ -73,11 +73,12 @@ fn check_refused(bytes: &[u8], fault: &Fault, find: bool) {
     }
 }
 
-/// What would be printed: a line for each message, and JSON that holds the same names.
+/// What would be printed: a line for each message, or one on what to do where there is no order;
+/// and JSON that holds the same names.
 fn check_shown(table: &Table, answer: &Answer) {
     let text = Report { file: "made up", table, answer }.to_string();
     assert_eq!(text.lines().filter(|line| line.starts_with('!')).count(), answer.late());
-    let rows = if answer.judged.is_empty() { 0 } else { answer.judged.len() + 1 };
+    let rows = if answer.judged.is_empty() { 1 } else { answer.judged.len() + 1 };
     assert_eq!(text.lines().count(), rows + 2);
     let object = json::read(&to_json::answer("made up", table, answer));
     let shown = object.find("messages").map(Json::items).unwrap_or(&[]);

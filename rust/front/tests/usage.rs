@@ -36,6 +36,67 @@ fn the_help_can_be_followed() {
     assert_eq!(said.status, Some(0), "{said:?}");
 }
 
+/// The keys of this object as the help lists them, with those of an object in it after its own.
+fn listed(object: &Json) -> String {
+    let keys = object.keys().into_iter().filter(|key| *key != "verdict");
+    let keys = keys.map(|key| match object.get(key) {
+        Json::Object(_) => format!("{key} ({})", object.get(key).keys().join(", ")),
+        _ => key.to_string(),
+    });
+    keys.collect::<Vec<_>>().join(", ")
+}
+
+// Each verdict stands in the help with the keys that its object has.
+#[test]
+fn the_help_lists_the_keys() {
+    let help = run(&["--help"]).out;
+    let listed_so = |args: &[&str], verdict: &str| {
+        let object = json::read(&run(args).out);
+        assert_eq!(object.get("verdict").text(), verdict);
+        let line = format!("\n  {verdict:12}{}", listed(&object));
+        let rest = help.split_once(&line).unwrap_or_else(|| panic!("{line} in {help}")).1;
+        assert!(rest.starts_with(['\n', ':']), "{line}{rest}");
+        object
+    };
+    let passed = listed_so(&["judge", TABLE_A, "C,F,A,B", "--json"], "passed");
+    listed_so(&["judge", "examples/late.csv", "--json"], "late");
+    let found = listed_so(&["find", "examples/deck.csv", "--json"], "found");
+    listed_so(&["find", "examples/no_order.csv", "--json"], "no order");
+    let row = |row: &str| file("for_help.csv", format!("{HEADER}{row}\n").as_bytes());
+    listed_so(&["find", &row("A,priority,std 9,9,9,0"), "--json"], "refused");
+    listed_so(&["find", &row("A,priority,8,9,9,0"), "--json"], "unreadable");
+    listed_so(&["--json"], "usage");
+    // Of the messages, first what is there without a bit rate.
+    let all = listed(&found.get("messages").items()[0]);
+    let first = listed(&passed.get("messages").items()[0]);
+    let with_rate = all.strip_prefix(&format!("{first}, ")).expect("more with a bit rate");
+    let words = help.split_whitespace().collect::<Vec<_>>().join(" ");
+    assert!(words.contains(&format!("has {first} and, with a bit rate, {with_rate}.")), "{words}");
+}
+
+// The help says so, and so it is.
+#[test]
+fn case_and_blanks_do_not_matter() {
+    let help = run(&["--help"]).out;
+    let words = help.split_whitespace().collect::<Vec<_>>().join(" ");
+    assert!(words.contains("Blanks around a cell do not matter."), "{help}");
+    assert!(words.contains("in the header, in the queue and in the words std, ext and bits;"));
+    let rows =
+        "A,fifo 1,std 8,1000,1000,0\na,priority,ext 8,1000,1000,0\nB,fifo 1,bits 9,1000,1000,0\n";
+    let plain = format!("{HEADER}{rows}");
+    let path = file("case.csv", plain.as_bytes());
+    let expected = run(&["find", &path]);
+    assert_eq!(expected.status, Some(0), "{expected:?}");
+    let upper = ["fifo", "priority", "std", "ext", "bits"]
+        .iter()
+        .fold(plain.clone(), |text, word| text.replace(word, &word.to_uppercase()));
+    let upper = upper.replace(HEADER.trim(), &HEADER.trim().to_uppercase());
+    for text in [upper.clone(), plain.replace(',', " , "), upper.replace(',', "  ,  ")] {
+        let said = run(&["find", &file("case.csv", text.as_bytes())]);
+        assert_eq!((said.out, said.status), (expected.out.clone(), expected.status), "{text}");
+    }
+}
+
 #[test]
 fn misuse() {
     let cases: [(&[&str], &str); 11] = [
@@ -56,13 +117,14 @@ fn misuse() {
         assert_eq!((said.out.as_str(), said.status), ("", Some(2)), "{args:?}");
         assert!(said.err.contains(part), "{said:?}");
         assert!(said.err.contains("usage: telhavina judge TABLE.csv [ORDER] [--json]"), "{said:?}");
-        // A program that asks for JSON is answered in JSON, with the usage where it was.
+        // A program that asks for JSON is answered in JSON, and in nothing else.
         let mut args = args.to_vec();
         args.insert(0, "--json");
         let said = run(&args);
-        assert_eq!(said.status, Some(2), "{args:?}");
-        assert_eq!(json::read(&said.out).get("verdict").text(), "usage");
-        assert!(said.err.contains("usage: "), "{said:?}");
+        assert_eq!((said.err.as_str(), said.status), ("", Some(2)), "{args:?}");
+        let object = json::read(&said.out);
+        assert_eq!(object.get("verdict").text(), "usage");
+        assert!(object.get("message").text().contains(part), "{said:?}");
     }
 }
 
