@@ -38,7 +38,8 @@ pub fn in_words(refusal: Refusal, table: &Table, order: Option<&[Entry]>) -> Fau
 
 fn too_many(table: &Table) -> Fault {
     let rows = table.messages.len();
-    let fault = Fault::new(format!("the file has {rows} messages, and at most 64 are allowed"));
+    let fault =
+        Fault::new(format!("the file has {rows} messages, and at most {MOST_ROWS} are allowed"));
     match table.messages.get(MOST_ROWS) {
         Some(message) => fault.on_line(message.line),
         None => fault,
