@@ -16,28 +16,56 @@ use Rattle.bus.specs.Model.{Frame, Run, _∈_, during, After, Licensed, 
 use Rattle.bus.specs.Frames.{total, total-mono}
 use Rattle.bus.specs.Spacing.{howMany, by-rows, crowd, alone}
 use Rattle.bus.specs.Trace.{joined, lawful, queued-by, spaced-window, window, in-window}
-use Rattle.bus.specs.Competing.{Competes, fresh, rival-waits, fresh-rival, fresh-spaced}
+use Rattle.bus.specs.Competing.{Competes, fresh, Prompt, rival-waits, fresh-rival, fresh-spaced}
 use Rattle.bus.specs.Enough.{jitter, rush, bits, most}
 
-module _ (τ : Table) (sane : Sane τ) (o : List ℕ) (run : Run) (legal : Legal τ run) (comp : List Frame → List Frame) (K : Competes τ comp) (p : ℕ) where
-  abbrev new : ℕ → List Frame
-  new = fresh τ sane o run legal comp K
+-- the bits above the band at place p that come to compete in the d bit times from s on
+unfoldable pub coming : (τ : Table) (o : List ℕ) (run : Run) (comp : List Frame → List Frame) (p s d : ℕ) → ℕ
+coming τ o run comp p s d = total (bits τ o p) (window (fresh τ o run comp) s d)
 
-  -- the bits above that come to compete in the d bit times from s on, and the most that is queued in them of the band
-  unfoldable pub coming : (s d : ℕ) → ℕ
-  coming s d = total (bits τ o p) (window new s d)
+-- and the most that is queued in them of the band
+unfoldable pub own-coming : (τ : Table) (o : List ℕ) (run : Run) (p s d : ℕ) → ℕ
+own-coming τ o run p s d = total (most τ o p) (window (during run) s d)
 
-  unfoldable pub own-coming : (s d : ℕ) → ℕ
-  own-coming s d = total (most τ o p) (window (during run) s d)
+module _ (τ : Table) (sane : Sane τ) (o : List ℕ) (run : Run) (legal : Legal τ run) (p w : ℕ) where
+  pub own-coming-most : w + MIN τ (own τ o p) ≤ leastE τ (own τ o p) → (s d : ℕ) → d ≤ w → own-coming τ o run p s d ≤ SUM τ (own τ o p)
+  unfolding own-coming most
+  own-coming-most within s d h =
+      le-trans (by-rows (τ .n) (own τ o p) (τ .C) l (λ x m. lawful-in x m .2 .row-is))
+      (sum-mono (τ .n) (own τ o p) (own τ o p) _ (τ .C) (λ k _ t. t) (λ k i t. omega (arith, mul-le-mul-left (τ .C k) (alone τ k l (spaced-window τ o run legal s d) (clash k i t)))))
+    where
+      l : List Frame
+      l = window (during run) s d
 
-  module _ (f : ℕ → ℕ) (w : ℕ) where
-    -- before bit time e a frame comes to compete no later than f after it is queued
-    abbrev pub Prompt : ℕ → Type 0
-    Prompt e = (t : ℕ) → t < e → (x : Frame) → x ∈ new t → t ≤ x .queued + f (x .row)
+      lawful-in : (x : Frame) → x ∈ l → (s ≤ x .queued) × (x .queued < s + d) × Licensed τ (x .queued) x
+      lawful-in x m =
+          let y = in-window (during run) d s x m in
+          let z = legal .licensed (y .0) x (y .3) in
+          (omega (arith, y .1, z .queued-at), omega (arith, y .2, z .queued-at), subst (λ (j : ℕ). Licensed τ j x) (sym (z .queued-at)) z)
 
-    pub coming-most : (s d : ℕ) → d ≤ w → Prompt (s + d) → coming s d ≤ rush τ o f p w
+      -- w is no longer than a period less the jitter, so one frame of each row is all
+      clash : (k : ℕ) → k < τ .n → Is (own τ o p k) → (x y : Frame) → x ∈ l → y ∈ l → x .row ≡ k → y .row ≡ k → After τ x y → ⊥
+      clash k i t x y mx my ex ey g =
+          omega (
+            arith,
+            g,
+            lawful-in x mx .0,
+            lawful-in y my .1,
+            lawful-in x mx .2 .wait-most,
+            ap (τ .J) ex,
+            ap (τ .T) ex,
+            within,
+            min-le (maxOver (τ .n) (own τ o p) (τ .E)) (own τ o p) (τ .E) (τ .n) k i t,
+            sane .within k i,
+          )
+
+  module _ (comp : List Frame → List Frame) (K : Competes τ comp) where
+    abbrev new : ℕ → List Frame
+    new = fresh τ o run comp
+
+    pub coming-most : (f : ℕ → ℕ) (s d : ℕ) → d ≤ w → Prompt τ o run comp f (s + d) → coming τ o run comp p s d ≤ rush τ o f p w
     unfolding coming bits load
-    coming-most s d h prompt =
+    coming-most f s d h prompt =
         le-trans (total-mono (bits τ o p) (λ x. cond (above τ o p (x .row)) (τ .C (x .row)) 0) l (λ x m. longer (above τ o p (x .row)) (lawful-in x m .len-most)))
         (le-trans (by-rows (τ .n) (above τ o p) (τ .C) l (λ x m. lawful-in x m .row-is))
         (sum-mono (τ .n) (above τ o p) (above τ o p) _ _ (λ k _ t. t) (λ k i _. mul-le-mul-left (τ .C k) (few k i))))
@@ -67,34 +95,3 @@ module _ (τ : Table) (sane : Sane τ) (o : List ℕ) (run : Run) (legal : Legal
             let late = prompt (u .0) (u .2) y (u .3) in
             let early = queued-by τ o run legal (u .0) y (waits y (u .0) (u .3)) in
             (omega (arith, u .1, ap f e), omega (arith, u .2))))
-
-    pub own-coming-most : w + MIN τ (own τ o p) ≤ leastE τ (own τ o p) → (s d : ℕ) → d ≤ w → own-coming s d ≤ SUM τ (own τ o p)
-    unfolding own-coming most
-    own-coming-most within s d h =
-        le-trans (by-rows (τ .n) (own τ o p) (τ .C) l (λ x m. lawful-in x m .2 .row-is))
-        (sum-mono (τ .n) (own τ o p) (own τ o p) _ (τ .C) (λ k _ t. t) (λ k i t. omega (arith, mul-le-mul-left (τ .C k) (alone τ k l (spaced-window τ o run legal s d) (clash k i t)))))
-      where
-        l : List Frame
-        l = window (during run) s d
-
-        lawful-in : (x : Frame) → x ∈ l → (s ≤ x .queued) × (x .queued < s + d) × Licensed τ (x .queued) x
-        lawful-in x m =
-            let y = in-window (during run) d s x m in
-            let z = legal .licensed (y .0) x (y .3) in
-            (omega (arith, y .1, z .queued-at), omega (arith, y .2, z .queued-at), subst (λ (j : ℕ). Licensed τ j x) (sym (z .queued-at)) z)
-
-        -- w is no longer than a period less the jitter, so one frame of each row is all
-        clash : (k : ℕ) → k < τ .n → Is (own τ o p k) → (x y : Frame) → x ∈ l → y ∈ l → x .row ≡ k → y .row ≡ k → After τ x y → ⊥
-        clash k i t x y mx my ex ey g =
-            omega (
-              arith,
-              g,
-              lawful-in x mx .0,
-              lawful-in y my .1,
-              lawful-in x mx .2 .wait-most,
-              ap (τ .J) ex,
-              ap (τ .T) ex,
-              within,
-              min-le (maxOver (τ .n) (own τ o p) (τ .E)) (own τ o p) (τ .E) (τ .n) k i t,
-              sane .within k i,
-            )

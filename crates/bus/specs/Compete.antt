@@ -95,6 +95,11 @@ module _ (o : List ℕ) where
       go (no e) ih (List·Memᴰ·tail (List·Memᴰ·head p)) = omega (arith, ap placeOf p, ih f f (List·Memᴰ·head refl))
       go (no e) ih (List·Memᴰ·tail (List·Memᴰ·tail m)) = ih f h (List·Memᴰ·tail m)
 
+-- nothing begins: the bus is held, or nothing waits
+pub data Rests (s : State) : Type 0 where
+  busy : (f : Frame) (l : ℕ) → s .bus ≡ sending f l → Rests s
+  idle : s .bus ≡ free → s .waiting ≡ [] → Rests s
+
 module _ (τ : Table) (o : List ℕ) where
   -- every queue in which a frame waits has a head, and g stands no lower than it
   pub record Led (g x : Frame) (w : List Frame) : Type 0 where
@@ -107,10 +112,9 @@ module _ (τ : Table) (o : List ℕ) where
   abbrev pub Wins : Frame → List Frame → Type 0
   Wins g w = (x : Frame) → x ∈ w → Led g x w
 
-  -- ---- what the competition does: nothing where the bus is held, or where nothing waits; else the winner begins
+  -- ---- what the competition does: nothing, or the winner begins
   pub data Turn (s c : State) : Type 0 where
-    busy : (f : Frame) (l : ℕ) → s .bus ≡ sending f l → c ≡ s → Turn s c
-    idle : s .bus ≡ free → s .waiting ≡ [] → c ≡ s → Turn s c
+    rests : Rests s → c ≡ s → Turn s c
     begins : (g : Frame) → s .bus ≡ free → Takes τ g (s .waiting) (c .waiting) → Wins g (s .waiting) → c .bus ≡ sending g (g .len - 1) → c .log ≡ s .log → Turn s c
 
   pub turn : (s : State) → Turn s (compete τ o s)
@@ -122,7 +126,7 @@ module _ (τ : Table) (o : List ℕ) where
       no-heads (f ∷ w) e = cc
 
       among : (hs : List Frame) → heads τ (s .waiting) ≡ hs → s .bus ≡ free → Turn s (competeOf τ o hs s)
-      among [] e b = idle b (no-heads (s .waiting) e) refl
+      among [] e b = rests (idle b (no-heads (s .waiting) e)) refl
       among (h ∷ hs) e b =
           begins (highest o h hs) b (head-takes τ _ (s .waiting) (rw e (highest-in o h hs)))
           (λ x m. let y = has-head τ x (s .waiting) m in
@@ -131,4 +135,4 @@ module _ (τ : Table) (o : List ℕ) where
 
       go : (b : Bus) → s .bus ≡ b → Turn s (competeOn τ o b s)
       go free e = among (heads τ (s .waiting)) refl e
-      go (sending f l) e = busy f l e refl
+      go (sending f l) e = rests (busy f l e) refl

@@ -12,9 +12,9 @@ use lib.Dec.{T as Is}
 use Rattle.order.specs.Table.{Table, MIN}
 use Rattle.order.specs.Orders.{Order, own}
 use Rattle.bus.specs.Model.{Frame, Run, State, sending, _∈_, during, SentAt, Legal, Sane}
-use Rattle.bus.specs.Compete.{Turn, busy, idle, begins, turn, takes-else}
+use Rattle.bus.specs.Compete.{Turn, rests, begins, turn, takes-else}
 use Rattle.bus.specs.Trace.{joined, settled, joins, next-waiting, still, log-later, will-be-sent}
-use Rattle.bus.specs.Competing.{Competes, fresh, rival-waits, fresh-rival, fresh-new}
+use Rattle.bus.specs.Competing.{Competes, Prompt, rival-waits, fresh-rival, fresh-new}
 use Rattle.bus.specs.Enough.{Enough, Clear}
 use Rattle.bus.specs.Waiting.{in-time}
 
@@ -27,7 +27,7 @@ module _ (τ : Table) (sane : Sane τ) (o : List ℕ) (ord : Order τ o) (run : 
     (f : ℕ → ℕ) (Watched : ℕ → Type 0) (w : ℕ → ℕ) (enough : (p : ℕ) → Watched p → Enough τ o f p (w p)) (clear : (p : ℕ) → Watched p → Clear τ o comp p)
     (held : (t : ℕ) → Soon τ o run Watched w t → (x : Frame) → x ∈ joined τ o run t .waiting → (x ∈ comp (joined τ o run t .waiting) → ⊥) → t < x .queued + f (x .row)) where
   -- a frame comes to compete where it is queued, or where it was held back
-  prompt : (e : ℕ) → ((t : ℕ) → suc t < e → Soon τ o run Watched w t) → (t : ℕ) → t < e → (x : Frame) → x ∈ fresh τ sane o run legal comp K t → t ≤ x .queued + f (x .row)
+  prompt : (e : ℕ) → ((t : ℕ) → suc t < e → Soon τ o run Watched w t) → Prompt τ o run comp f e
   prompt e so zero h x m = omega arith
   prompt e so (suc t) h x m =
       elim (List·Memᴰ·append-cases (settled τ o run t .waiting) (rw (next-waiting τ o run t) at (rival-waits τ sane o run legal comp K (suc t) x (fresh-rival τ sane o run legal comp K (suc t) x m)))) [
@@ -50,8 +50,7 @@ module _ (τ : Table) (sane : Sane τ) (o : List ℕ) (ord : Order τ o) (run : 
   begin (suc fuel) t p j x i h m = go (turn τ o (joined τ o run t)) (λ k. begin fuel (suc t) p j x i (omega arith) (rw (next-waiting τ o run t) (Memᴰ·append-left (during run (suc t)) k)))
     where
       go : Turn τ o (joined τ o run t) (settled τ o run t) → (x ∈ settled τ o run t .waiting → Begins x (x .queued + w p + MIN τ (own τ o p))) → Begins x (x .queued + w p + MIN τ (own τ o p))
-      go (busy g l b e) ih = ih (subst (λ (s : State). x ∈ s .waiting) (sym e) m)
-      go (idle b n e) ih = ih (subst (λ (s : State). x ∈ s .waiting) (sym e) m)
+      go (rests _ e) ih = ih (subst (λ (s : State). x ∈ s .waiting) (sym e) m)
       go (begins g b k v c s) ih = elim (takes-else τ g x k m) [
         | inl e ↦ (t, soon (suc t) t (omega arith) x m p j i, c ∙ ap (λ (y : Frame). sending y (y .len - 1)) e)
         | inr n ↦ ih n

@@ -130,11 +130,11 @@ module _ (τ : Table) (k : ℕ) where
   packed lo hi l = total (λ x. one-if (inside? lo hi x)) l
 
   -- all of row k keep to the jitter
-  abbrev Prompt : List Frame → Type 0
-  Prompt l = (y : Frame) → y ∈ l → y .row ≡ k → y .wait ≤ τ .J k
+  abbrev Punctual : List Frame → Type 0
+  Punctual l = (y : Frame) → y ∈ l → y .row ≡ k → y .wait ≤ τ .J k
 
   -- the events of a list beside that of x lie before it, or a period after it
-  beside : (lo hi : ℕ) (x : Frame) (l : List Frame) → x .row ≡ k → ((y : Frame) → y ∈ l → x .row ≡ y .row → Apart τ x y) → Prompt l → x .wait ≤ τ .J k
+  beside : (lo hi : ℕ) (x : Frame) (l : List Frame) → x .row ≡ k → ((y : Frame) → y ∈ l → x .row ≡ y .row → Apart τ x y) → Punctual l → x .wait ≤ τ .J k
       → packed lo hi l ≤ packed lo (event x) l + packed (event x + τ .T k) hi l
   beside lo hi x l e apart wl wx = total-split _ _ _ l (λ y m. one-or (inside? lo hi y) (inside? lo (event x) y) (inside? (event x + τ .T k) hi y) (side y m))
     where
@@ -147,7 +147,7 @@ module _ (τ : Table) (k : ℕ) where
           ]
 
   -- periods do not overlap
-  pack : (l : List Frame) → Spaced τ l → Prompt l → (lo hi : ℕ) → lo ≤ hi → packed lo hi l * τ .T k + lo ≤ hi
+  pack : (l : List Frame) → Spaced τ l → Punctual l → (lo hi : ℕ) → lo ≤ hi → packed lo hi l * τ .T k + lo ≤ hi
   pack [] sp w lo hi h = omega arith
   pack (x ∷ l) sp w lo hi h = go (inside? lo hi x) (pack l (sp .1) (λ y m. w y (List·Memᴰ·tail m)))
     where
@@ -159,7 +159,7 @@ module _ (τ : Table) (k : ℕ) where
       go (no i) ih = omega (arith, ih lo hi h)
 
   -- of those queued in d bit times there are no more than the rounded-up quotient (d + J + 1) / T
-  pub crowd : (s d : ℕ) (l : List Frame) → 1 ≤ τ .T k → Spaced τ l → Prompt l → ((y : Frame) → y ∈ l → y .row ≡ k → (s ≤ y .queued) × (y .queued < s + d))
+  pub crowd : (s d : ℕ) (l : List Frame) → 1 ≤ τ .T k → Spaced τ l → Punctual l → ((y : Frame) → y ∈ l → y .row ≡ k → (s ≤ y .queued) × (y .queued < s + d))
       → howMany k l ≤ ceil (d + τ .J k + 1) (τ .T k)
   unfolding ceil
   crowd s d l t sp w b =

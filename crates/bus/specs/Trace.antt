@@ -11,7 +11,7 @@ use Rattle.order.specs.Table.{Table}
 use Rattle.bus.specs.Model.{Frame, Run, State, Bus, Sent, free, sending, _∈_, during, frames, queue, compete, passOn, pass, join, step, state, Apart, Spaced, Licensed, Legal}
 use Rattle.bus.specs.Frames.{total, total-append}
 use Rattle.bus.specs.Spacing.{spaced-left, spaced-right, not-apart}
-use Rattle.bus.specs.Compete.{Takes, here, there, Turn, busy, idle, begins, turn, takes-from, takes-in}
+use Rattle.bus.specs.Compete.{Takes, here, there, Turn, rests, begins, turn, takes-from, takes-in}
 
 -- the bits still to pass
 abbrev pub left : Bus → ℕ
@@ -91,8 +91,7 @@ module _ (τ : Table) (o : List ℕ) (run : Run) where
   still t x m = go (turn τ o (joined t))
     where
       go : Turn τ o (joined t) (settled t) → x ∈ joined t .waiting
-      go (busy f l b e) = subst (λ (s : State). x ∈ s .waiting) e m
-      go (idle b n e) = subst (λ (s : State). x ∈ s .waiting) e m
+      go (rests _ e) = subst (λ (s : State). x ∈ s .waiting) e m
       go (begins g b k v c s) = takes-from τ g x k m
 
   -- ---- the log only grows
@@ -101,8 +100,7 @@ module _ (τ : Table) (o : List ℕ) (run : Run) where
   log-next t x m = pass-log t (settled t .bus) (settled t) x (go (turn τ o (joined t)))
     where
       go : Turn τ o (joined t) (settled t) → x ∈ settled t .log
-      go (busy f l b e) = subst (λ (s : State). x ∈ s .log) (sym e) m
-      go (idle b n e) = subst (λ (s : State). x ∈ s .log) (sym e) m
+      go (rests _ e) = subst (λ (s : State). x ∈ s .log) (sym e) m
       go (begins g b k v c s) = subst (λ (l : List Sent). x ∈ l) (sym s) m
 
   pub log-later : (k t u : ℕ) (x : Sent) → t + k ≡ u → x ∈ state τ o run t .log → x ∈ state τ o run u .log
@@ -122,8 +120,7 @@ module _ (τ : Table) (o : List ℕ) (run : Run) where
   no-interruption t l f b = go (turn τ o (joined t))
     where
       go : Turn τ o (joined t) (settled t) → settled t .bus ≡ sending f l
-      go (busy g k _ e) = ap (λ (s : State). s .bus) e ∙ b
-      go (idle q _ e) = ap (λ (s : State). s .bus) e ∙ b
+      go (rests _ e) = ap (λ (s : State). s .bus) e ∙ b
       go (begins g q _ _ _ _) = absurd (let z : _≡_ {A = ℕ} 0 (suc l) = ap left (sym q ∙ b) in omega arith)
 
   pub will-be-sent : (l t u : ℕ) (f : Frame) → t + suc l ≡ u → settled t .bus ≡ sending f l → record { frame = f; at = u } ∈ state τ o run u .log
@@ -216,8 +213,7 @@ module _ (τ : Table) (o : List ℕ) (run : Run) (legal : Legal τ run) where
     where
       go : Turn τ o (joined τ o run t) (settled τ o run t) → Spaced τ (joined τ o run t .waiting ++ (during run (suc t) ++ window (during run) (suc (suc t)) d))
           → Spaced τ (settled τ o run t .waiting ++ (during run (suc t) ++ window (during run) (suc (suc t)) d))
-      go (busy f l b e) sp = subst (λ (s : State). Spaced τ (s .waiting ++ (during run (suc t) ++ window (during run) (suc (suc t)) d))) (sym e) sp
-      go (idle b n e) sp = subst (λ (s : State). Spaced τ (s .waiting ++ (during run (suc t) ++ window (during run) (suc (suc t)) d))) (sym e) sp
+      go (rests _ e) sp = subst (λ (s : State). Spaced τ (s .waiting ++ (during run (suc t) ++ window (during run) (suc (suc t)) d))) (sym e) sp
       go (begins g b k v c s) sp = spaced-takes τ g _ k sp
 
   pub spaced-waiting : (t : ℕ) → Spaced τ (joined τ o run t .waiting)

@@ -15,11 +15,11 @@ use Rattle.order.specs.Table.{Table, MIN}
 use Rattle.order.specs.Orders.{Order, own}
 use Rattle.bus.specs.Model.{Frame, Run, State, _∈_, during, state, join, Licensed, Legal, Sane}
 use Rattle.bus.specs.Frames.{total, total-append, total-zero, total-in}
-use Rattle.bus.specs.Compete.{Takes, Turn, busy, idle, begins, turn, Wins, takes-in, takes-total}
+use Rattle.bus.specs.Compete.{Takes, busy, idle, Turn, rests, begins, turn, Wins, takes-in, takes-total}
 use Rattle.bus.specs.Trace.{left, joined, settled, next-waiting, next-left, still, lawful, window, window-more}
-use Rattle.bus.specs.Competing.{Competes, rivals, fresh, remaining, rival-waits, remaining-le, remaining-less, rivals-next}
+use Rattle.bus.specs.Competing.{Competes, rivals, fresh, remaining, Prompt, rival-waits, remaining-le, remaining-less, rivals-next}
 use Rattle.bus.specs.Enough.{longest, Enough, Clear, Side, side, long-below, short-own, longest-most, bits, most, bits-above, no-bits, most-own, no-most}
-use Rattle.bus.specs.Coming.{coming, own-coming, Prompt, coming-most, own-coming-most}
+use Rattle.bus.specs.Coming.{coming, own-coming, coming-most, own-coming-most}
 
 module _ (τ : Table) (sane : Sane τ) (o : List ℕ) (ord : Order τ o) (run : Run) (legal : Legal τ run) (comp : List Frame → List Frame) (K : Competes τ comp)
     (f : ℕ → ℕ) (p w : ℕ) (enough : Enough τ o f p w) (clear : Clear τ o comp p) where
@@ -33,19 +33,19 @@ module _ (τ : Table) (sane : Sane τ) (o : List ℕ) (ord : Order τ o) (run : 
   higher = bits τ o p
 
   abbrev vying : ℕ → List Frame
-  vying = rivals τ sane o run legal comp K
+  vying = rivals τ o run comp
 
   abbrev new : ℕ → List Frame
-  new = fresh τ sane o run legal comp K
+  new = fresh τ o run comp
 
   abbrev staying : ℕ → List Frame
-  staying = remaining τ sane o run legal comp K
+  staying = remaining τ o run comp
 
   abbrev come : (s d : ℕ) → ℕ
-  come = coming τ sane o run legal comp K p
+  come = coming τ o run comp p
 
   abbrev own-come : (s d : ℕ) → ℕ
-  own-come = own-coming τ sane o run legal comp K p
+  own-come = own-coming τ o run p
 
   M-most : (1 ≤ M) × (MIN τ (own τ o p) ≤ M)
   M-most = longest-most τ o p sane ord (enough .inside)
@@ -98,8 +98,8 @@ module _ (τ : Table) (sane : Sane τ) (o : List ℕ) (ord : Order τ o) (run : 
           inl (omega (arith, z .len-least, z .len-most, fewer higher), omega (arith, takes-total τ mine g k))
 
       go : Turn τ o (joined τ o run t) (settled τ o run t) → Turned t
-      go (busy g l b e) = inr (omega (arith, ap (λ (z : State). left (z .bus)) e, ap left b), omega (arith, ap (λ (z : State). left (z .bus) + total mine (z .waiting)) e, fewer higher))
-      go (idle b n e) =
+      go (rests (busy g l b) e) = inr (omega (arith, ap (λ (z : State). left (z .bus)) e, ap left b), omega (arith, ap (λ (z : State). left (z .bus) + total mine (z .waiting)) e, fewer higher))
+      go (rests (idle b n) e) =
           let a : total higher (vying t) ≡ 0 = total-zero higher (vying t) (λ x m. absurd (elim (subst (λ (z : List Frame). x ∈ z) n (rival-waits τ sane o run legal comp K t x m)) [ ])) in
           let q : total mine (settled τ o run t .waiting) ≡ 0 = ap (λ (z : State). total mine (z .waiting)) e ∙ ap (total mine) n in
           inl (omega (arith, ap (λ (z : State). left (z .bus)) e, ap left b, fewer higher, M-most), q)
@@ -117,10 +117,10 @@ module _ (τ : Table) (sane : Sane τ) (o : List ℕ) (ord : Order τ o) (run : 
     fewer : ahead t + d < M + come s (suc d) + own-come s (suc d)
 
   -- so the equation has room for it
-  few : (t : ℕ) → Prompt τ sane o run legal comp K p f w (suc t) → (l : Coming t) → ahead t + l .d < w + MIN τ (own τ o p)
+  few : (t : ℕ) → Prompt τ o run comp f (suc t) → (l : Coming t) → ahead t + l .d < w + MIN τ (own τ o p)
   few t prompt l =
-      let a = own-coming-most τ sane o run legal comp K p f w (enough .within) (l .s) (suc (l .d)) (l .short) in
-      let b = coming-most τ sane o run legal comp K p f w (l .s) (suc (l .d)) (l .short) (λ u h. prompt u (omega (arith, l .now))) in
+      let a = own-coming-most τ sane o run legal p w (enough .within) (l .s) (suc (l .d)) (l .short) in
+      let b = coming-most τ sane o run legal p w comp K f (l .s) (suc (l .d)) (l .short) (λ u h. prompt u (omega (arith, l .now))) in
       omega (arith, l .fewer, enough .room)
 
   w-pos : 0 < w
@@ -138,7 +138,7 @@ module _ (τ : Table) (sane : Sane τ) (o : List ℕ) (ord : Order τ o) (run : 
       go (inl q) ih = omega (arith, short-own τ o p (x .row) (rows x (List·Memᴰ·head refl)) q, most-own τ o p x q)
       go (inr q) ih = let z = no-most τ o p x (T-not (own τ o p (x .row)) q) in omega (arith, ih (omega arith))
 
-  coming-next : (t : ℕ) → Prompt τ sane o run legal comp K p f w (suc t) → Coming t → Coming (suc t)
+  coming-next : (t : ℕ) → Prompt τ o run comp f (suc t) → Coming t → Coming (suc t)
   unfolding left-ahead Turned coming own-coming
   coming-next t prompt l = go (turned t)
     where
@@ -184,7 +184,7 @@ module _ (τ : Table) (sane : Sane τ) (o : List ℕ) (ord : Order τ o) (run : 
         | no n ↦ on h le (omega (arith, some-mine (settled τ o run t .waiting) rows (omega arith)))
       ]
 
-  coming-always : (t : ℕ) → Prompt τ sane o run legal comp K p f w t → Coming t
+  coming-always : (t : ℕ) → Prompt τ o run comp f t → Coming t
   unfolding ahead coming own-coming fresh state join window
   coming-always zero prompt = record {
     s = 0;
@@ -197,7 +197,7 @@ module _ (τ : Table) (sane : Sane τ) (o : List ℕ) (ord : Order τ o) (run : 
   coming-always (suc t) prompt = coming-next t prompt (coming-always t (λ u h. prompt u (omega arith)))
 
   -- what waits of the band begins in time
-  pub in-time : (t : ℕ) → Prompt τ sane o run legal comp K p f w (suc t) → (x : Frame) → x ∈ joined τ o run t .waiting → Is (own τ o p (x .row)) → t + τ .C (x .row) < x .queued + w + MIN τ (own τ o p)
+  pub in-time : (t : ℕ) → Prompt τ o run comp f (suc t) → (x : Frame) → x ∈ joined τ o run t .waiting → Is (own τ o p (x .row)) → t + τ .C (x .row) < x .queued + w + MIN τ (own τ o p)
   unfolding ahead
   in-time t prompt x m h =
       let l = coming-always t (λ u i. prompt u (omega arith)) in

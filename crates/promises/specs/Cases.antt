@@ -22,7 +22,7 @@ use Rattle.judge.specs.Judged.{orderRefusal, Judged}
 use Rattle.finder.specs.Placing.{rising, leads}
 use Rattle.finder.specs.Searched.{Searched}
 use Rattle.promises.specs.Reckon.{climb, reckon, same-list}
-use Rattle.promises.specs.Worked.{judges, judged, firstOf, stands?, follow, searches, searched}
+use Rattle.promises.specs.Worked.{judges, judged, follow, searches, searched}
 
 -- a row as the text writes it, form 0
 pub record Line : Type 0 where
@@ -121,5 +121,5 @@ all-right (d ∷ l) h c (List·Memᴰ·head e) = subst Right (sym e) (right d (a
 all-right (d ∷ l) h c (List·Memᴰ·tail m) = all-right l (and-right (test d) (test-all l) h) c m
 
 pub as-written : AsWritten
-unfolding tableRefusal ragged limit badField firstBad sizeAllowed orderRefusal badEntry resumes lowest orElse anyBelow bandKey bitTimes mem base demand over load ceil reckon climb decLe ℕ-discrete same-list firstOf stands? follow leads rising
+unfolding tableRefusal ragged limit badField firstBad sizeAllowed orderRefusal badEntry resumes lowest orElse anyBelow bandKey bitTimes mem base demand over load ceil reckon climb decLe ℕ-discrete same-list follow leads rising
 as-written = all-right cases tt

@@ -7,6 +7,7 @@ use native.Mathlib.Omega.{arith}
 use mathlib.Core.Path.{_≡_, ap, sym, subst}
 use mathlib.Core.List.{List}
 use lib.ListN.{length, take}
+use lib.Dec.{T as Is}
 use Rattle.sums.specs.Columns.{at}
 use Rattle.sums.specs.Sums.{maxOver}
 use Rattle.sums.specs.Laws.{min-le}
@@ -62,20 +63,23 @@ module _ {words order : List ℕ} {room : ℕ} (known : Fine words order room) w
     within = λ k l. let r = row-allowed words k (known .accepted .good k l) in omega (arith, r .deadline-le, r .jitter-le);
   }
 
+  -- the row at a place is of the band there
+  own-row : (p k : ℕ) → at order p ≡ k → Is (own (tableOf words) order p k)
+  own-row p k stands = band-intro (tableOf words) (tableOf words .key (at order p)) k (ap (tableOf words .key) (sym stands))
+
   -- a row's figure is kept
   row-kept : (run : Run) → Legal (tableOf words) run → (p R : ℕ) → p < rows words → FigureAt (tableOf words) order p R
       → (q : ℕ) (f : Frame) → f ∈ during run q → at order p ≡ f .row → q + R ≤ length run → SentBy (tableOf words) order run f (q + R)
   row-kept run legal p R inside figure q f m stands long =
       kept (tableOf words) accepted-sane order (known .order) (known .together) run legal p R (omega (arith, known .count)) figure q f m
-      (band-intro (tableOf words) (tableOf words .key (at order p)) (f .row) (ap (tableOf words .key) (sym stands))) long
+      (own-row p (f .row) stands) long
 
   passing-meets : AllPass (tableOf words) order → MeetsDeadlines words order
   passing-meets passing run legal q f m long =
       let ok = legal .licensed q f m in
       let (p, inside, stands) = place-of known (f .row) (ok .row-is) in
-      let own-row = band-intro (tableOf words) (tableOf words .key (at order p)) (f .row) (ap (tableOf words .key) (sym stands)) in
       let (R, figure) = passes-figure (tableOf words) (own (tableOf words) order p) (above (tableOf words) order p) (below (tableOf words) order p) (passing p (omega (arith, known .count))) in
-      let allowed = min-le (maxOver (rows words) (own (tableOf words) order p) (tableOf words .E)) (own (tableOf words) order p) (tableOf words .E) (rows words) (f .row) (ok .row-is) own-row in
+      let allowed = min-le (maxOver (rows words) (own (tableOf words) order p) (tableOf words .E)) (own (tableOf words) order p) (tableOf words .E) (rows words) (f .row) (ok .row-is) (own-row p (f .row) stands) in
       let (e, soon, there) = row-kept run legal p R inside figure q f m stands (omega (arith, figure .within)) in
       let r = row-allowed words (f .row) (known .accepted .good (f .row) (ok .row-is)) in
       (e, omega (arith, soon, figure .within, ok .wait-most, r .jitter-le), there)

@@ -2,35 +2,46 @@
 -- list afterwards. What they say yes to is so.
 -- Assumes nothing.
 use Prim.Native.Nat.{ℕ, zero, suc, _+_, _≤_, _<_}
-use native.Mathlib.Nat.{le-refl}
 use native.Mathlib.Decide.{decLt}
 use native.Mathlib.Omega.{arith}
-use mathlib.Core.Path.{_≡_, sym, _∙_, subst}
+use mathlib.Core.Path.{_≡_, sym, _∙_}
 use mathlib.Core.Logic.{_⊎_, inl, inr}
-use mathlib.Core.Bool.{Bool, true, false, not, _&&_, _||_}
+use mathlib.Core.Bool.{Bool, false, not, _&&_, _||_}
 use mathlib.Core.List.{List, [], _++_}
 use lib.ListN.{length, drop, List·getD-eq-default}
-use lib.Dec.{T as Is, eqb, eqb→eq, ltb}
+use lib.Dec.{T as Is, T-not, not-T, eqb, eqb→eq, ltb}
 use borrow.Author.Tests.{le-ltb}
-use Rattle.sums.specs.Masks.{Mask, Place, at, nowhere, lowest, except}
-use Rattle.sums.specs.MaskLaws.{or-cases, and-left, and-right, Lowest, is-at, is-none, lowest-is}
+use Rattle.sums.specs.Masks.{Mask, None, Place, at, nowhere, lowest, except}
+use Rattle.sums.specs.MaskLaws.{or-cases, and-left, and-right, and-intro, Lowest, is-at, is-none, lowest-is}
 use Rattle.sums.specs.Columns.{at as entry}
 use Rattle.sums.specs.Sums.{count}
 use Rattle.order.specs.Table.{Table, band, MIN, leastE, F}
-use Rattle.sums.specs.Least.{Fits}
-use Rattle.order.specs.Figures.{figure-fits}
 use Rattle.order.specs.Orders.{mem, own, above, below}
 use Rattle.intake.specs.Words.{tableOf}
 use Rattle.intake.specs.Answer.{Answer, answer}
 use Rattle.intake.specs.Refusals.{tableRefusal}
 use Rattle.judge.specs.Judged.{refusal, AllPassed, SomeLate, Answered, Judged}
 use Rattle.finder.specs.Placing.{Ending, found, none, unplaced, placing, free, candidate, Stands, Finds, done, place, stuck}
-use Rattle.finder.specs.Searched.{Searched}
+use Rattle.finder.specs.Searched.{Told, Searched}
 use Rattle.finder.specs.Searched.{Answered as Sought}
 use Rattle.promises.specs.Reckon.{Reckoned, reckon, isLate, is-late, fits-else, stands-for, stood-for, every, every-is, same-answer, same-answer-is, same-list, same-list-is, replies, replied}
 
 and-both : (a b : Bool) → Is (a && b) → Is a × Is b
 and-both a b h = (and-left a b h, and-right a b h)
+
+-- what the lowest place is known to be
+module _ {n k : ℕ} {p : Mask} where
+  pub is-below : Lowest n p (at k) → k < n
+  is-below (is-at l h f) = l
+
+  pub is-so : Lowest n p (at k) → Is (p k)
+  is-so (is-at l h f) = h
+
+  pub is-first : Lowest n p (at k) → (j : ℕ) → j < k → Is (p j) → ⊥
+  is-first (is-at l h f) = f
+
+pub is-no : {n : ℕ} {p : Mask} → Lowest n p nowhere → None n p
+is-no (is-none h) = h
 
 -- ---- judging
 
@@ -93,8 +104,8 @@ module _ (τ : Table) (order : List ℕ) where
           go (no k) = List·getD-eq-default after 0 (omega (arith, long)) ∙ sym (List·getD-eq-default before 0 (omega arith))
 
       first : (r : Place) → Lowest (τ .n) late r → a ≡ saying r → AllPassed τ order a ⊎ SomeLate τ order a
-      first nowhere (is-none none-late) e = inl (record { says = e; passing = λ p l. fits-else (verdictAt p) (none-late p l) })
-      first (at k) (is-at l t sooner) e = inr (record { place = k; says = e; inside = l; late = is-late (verdictAt k) t; earlier = λ p i. fits-else (verdictAt p) (sooner p i) })
+      first nowhere w e = inl (record { says = e; passing = λ p l. fits-else (verdictAt p) (is-no w p l) })
+      first (at k) w e = inr (record { place = k; says = e; inside = is-below w; late = is-late (verdictAt k) (is-so w); earlier = λ p i. fits-else (verdictAt p) (is-first w p i) })
 
 -- the words, the order, the list before and after, and the answer are as the statement says
 abbrev pub judges : (words order before after : List ℕ) (a : Answer) → Bool
@@ -105,38 +116,21 @@ judged words order before after a h = replied _ before after a (answers (tableOf
 
 -- ---- finding
 
--- the first number below n of which P holds, or that there is none
-abbrev pub First : (ℕ → Type 0) → ℕ → Type 0
-First P n = ((k : ℕ) × (k < n) × P k × ((i : ℕ) → i < k → P i → ⊥)) ⊎ ((k : ℕ) → k < n → P k → ⊥)
-
-unfoldable pub firstOf : (P : ℕ → Type 0) → ((k : ℕ) → Dec (P k)) → (n : ℕ) → First P n
-firstOf P d zero = inr (λ k l _. absurd (omega arith))
-firstOf P d (suc n) = go (firstOf P d n) (d n)
-  where
-    go : First P n → Dec (P n) → First P (suc n)
-    go (inl x) q = inl (x .0, omega (arith, x .1), x .2, x .3)
-    go (inr x) (yes q) = inl (n, le-refl (suc n), q, x)
-    go (inr x) (no q) = inr (λ k l t. elim (decLt k n) [
-      | yes i ↦ x k i t
-      | no i ↦ let e : k ≡ n = omega arith in q (subst P e t)
-    ])
-
-abbrev pub is? : (b : Bool) → Dec (Is b)
-is? true = yes tt
-is? false = no (λ x. x)
-
-abbrev pub fits? : {F : ℕ → ℕ} {m e : ℕ} → Reckoned F m e → Dec (Fits F m e)
-fits? {F} {m} {e} (inl x) = yes (figure-fits F m e (x .1))
-fits? (inr x) = no x
-
-abbrev pub both? : {P Q : Type 0} → Dec P → Dec Q → Dec (P × Q)
-both? (yes p) (yes q) = yes (p, q)
-both? (yes p) (no q) = no (λ x. q (x .1))
-both? (no p) q = no (λ x. p (x .0))
-
 module _ (τ : Table) where
-  unfoldable pub stands? : (placed : List ℕ) (k : ℕ) → Dec (Stands τ free placed k)
-  stands? placed k = both? (is? (candidate τ free placed k)) (fits? (reckon τ (band τ (τ .key k)) (except (λ i. not (mem placed i)) (band τ (τ .key k))) (except (mem placed) (band τ (τ .key k)))))
+  -- the verdict on the band of row k above the rows placed, and the bands to try that pass there
+  abbrev pub verdictOver : (placed : List ℕ) (k : ℕ) → Reckoned (F τ (band τ (τ .key k)) (except (λ i. not (mem placed i)) (band τ (τ .key k))) (except (mem placed) (band τ (τ .key k)))) (MIN τ (band τ (τ .key k))) (leastE τ (band τ (τ .key k)))
+  verdictOver placed k = reckon τ (band τ (τ .key k)) (except (λ i. not (mem placed i)) (band τ (τ .key k))) (except (mem placed) (band τ (τ .key k)))
+
+  abbrev pub passing : (placed : List ℕ) → Mask
+  passing placed k = candidate τ free placed k && not (isLate (verdictOver placed k))
+
+  pub stands : (placed : List ℕ) (k : ℕ) → Is (passing placed k) → Stands τ free placed k
+  stands placed k h =
+      let y = and-both (candidate τ free placed k) (not (isLate (verdictOver placed k))) h in
+      (y .0, fits-else (verdictOver placed k) (T-not (isLate (verdictOver placed k)) (y .1)))
+
+  pub passes : (placed : List ℕ) (k : ℕ) → Stands τ free placed k → Is (passing placed k)
+  passes placed k s = and-intro (candidate τ free placed k) (not (isLate (verdictOver placed k))) (s .0) (not-T (isLate (verdictOver placed k)) (λ t. is-late (verdictOver placed k) t (s .1)))
 
   -- how the rule ends, if it does within so many places
   pub data Ended (placed : List ℕ) (t : ℕ) : Type 0 where
@@ -145,33 +139,46 @@ module _ (τ : Table) where
 
   unfoldable pub follow : (places : ℕ) (placed : List ℕ) (t : ℕ) → Ended placed t
   follow zero placed t = goes-on
-  follow (suc places) placed t = go (firstOf (Stands τ free placed) (stands? placed) (τ .n)) (firstOf (λ u. Is (unplaced τ placed u)) (λ u. is? (unplaced τ placed u)) (τ .n)) (λ k. follow places (placing τ placed k) (t + suc (count k (candidate τ free placed))))
+  follow (suc places) placed t =
+      go (lowest (τ .n) (passing placed)) (lowest-is (τ .n) (passing placed)) (lowest (τ .n) (unplaced τ placed)) (lowest-is (τ .n) (unplaced τ placed))
+      (λ k. follow places (placing τ placed k) (t + suc (count k (candidate τ free placed))))
     where
-      go : First (Stands τ free placed) (τ .n) → First (λ u. Is (unplaced τ placed u)) (τ .n) → ((k : ℕ) → Ended (placing τ placed k) (t + suc (count k (candidate τ free placed)))) → Ended placed t
-      go (inl (k, l, s, f)) w rest = elim (rest k) [
-        | ended r x ↦ ended r (place k l s f x)
+      -- the facts are taken out of `Lowest` in proofs alone, so that the rule computes without them
+      go : (first : Place) → Lowest (τ .n) (passing placed) first → (left : Place) → Lowest (τ .n) (unplaced τ placed) left
+          → ((k : ℕ) → Ended (placing τ placed k) (t + suc (count k (candidate τ free placed)))) → Ended placed t
+      go (at k) w left v rest = elim (rest k) [
+        | ended r x ↦ ended r (place k (is-below w) (stands placed k (is-so w)) (λ i b s. is-first w i b (passes placed i s)) x)
         | goes-on ↦ goes-on
       ]
-      go (inr none-stands) (inl (u, l, h, f)) rest = ended _ (stuck u l h none-stands)
-      go (inr none-stands) (inr none-left) rest = ended _ (done none-left)
+      go nowhere w (at u) v rest = ended _ (stuck u (is-below v) (is-so v) (λ k b s. is-no w k b (passes placed k s)))
+      go nowhere w nowhere v rest = ended _ (done (is-no v))
+
+  -- what is said of an ending, and what it leaves of the lent list
+  abbrev says : Ending → Answer
+  says (found order tried) = answer 102 tried 0
+  says (none left tried) = answer 8 left tried
+
+  abbrev leaves : Ending → List ℕ → List ℕ
+  leaves (found order tried) before = order ++ drop (length order) before
+  leaves (none left tried) before = before
+
+  told : (r : Ending) (before after : List ℕ) (a : Answer) → a ≡ says r → after ≡ leaves r before → Told r before after a
+  told (found order tried) before after a e l = (e, l)
+  told (none left tried) before after a e l = (e, l)
 
   abbrev pub tells-of : {placed : List ℕ} {t : ℕ} → Ended placed t → (before after : List ℕ) (a : Answer) → Bool
-  tells-of (ended (found order tried) x) before after a = same-answer a (answer 102 tried 0) && same-list after (order ++ drop (length order) before)
-  tells-of (ended (none left tried) x) before after a = same-answer a (answer 8 left tried) && same-list after before
+  tells-of (ended r x) before after a = same-answer a (says r) && same-list after (leaves r before)
   tells-of goes-on before after a = false
 
-  -- what is told of how the rule ends; it ends within n places, and one more to see that none is left
+  told-of : (x : Ended [] 0) (before after : List ℕ) (a : Answer) → Is (tells-of x before after a) → Sought τ before after a
+  told-of (ended r x) before after a h =
+      let y = and-both (same-answer a (says r)) (same-list after (leaves r before)) h in
+      record { ending = r; follows = x; told = told r before after a (same-answer-is a (says r) (y .0)) (same-list-is after (leaves r before) (y .1)) }
+  told-of goes-on before after a h = absurd h
+
+  -- the rule ends within n places, and one more to see that none is left
   abbrev pub seeks : (before after : List ℕ) (a : Answer) → Bool
   seeks before after a = tells-of (follow (suc (τ .n)) [] 0) before after a
-
-  told-of : (x : Ended [] 0) (before after : List ℕ) (a : Answer) → Is (tells-of x before after a) → Sought τ before after a
-  told-of (ended (found order tried) x) before after a h =
-      let y = and-both (same-answer a (answer 102 tried 0)) (same-list after (order ++ drop (length order) before)) h in
-      record { ending = found order tried; follows = x; told = (same-answer-is a (answer 102 tried 0) (y .0), same-list-is after (order ++ drop (length order) before) (y .1)) }
-  told-of (ended (none left tried) x) before after a h =
-      let y = and-both (same-answer a (answer 8 left tried)) (same-list after before) h in
-      record { ending = none left tried; follows = x; told = (same-answer-is a (answer 8 left tried) (y .0), same-list-is after before (y .1)) }
-  told-of goes-on before after a h = absurd h
 
   pub sought : (before after : List ℕ) (a : Answer) → Is (seeks before after a) → Sought τ before after a
   sought before after a h = told-of (follow (suc (τ .n)) [] 0) before after a h
