@@ -1,4 +1,4 @@
--- What the desk replies, as document 01 numbers it, and checks that run one after the other. Definitions only.
+-- What the desk replies, as document 01 and the requests after it number it, and checks that run one after the other. Definitions only.
 -- Assumes nothing.
 use Prim.Native.Nat.{ℕ}
 use mathlib.Core.Path.{_≡_}
@@ -6,7 +6,8 @@ use mathlib.Core.List.{List}
 use mathlib.Core.Bool.{Bool, true, false}
 use Rattle.sums.specs.Masks.{Place, at, nowhere}
 use Rattle.intake.specs.declared.Refusal.{Refusal}
-use Rattle.intake.specs.declared.Refusal.the-variants.{Ragged, TooMany, BadRow, NoRoom, OrderLength, OrderEntry, SplitQueue, NoOrder}
+use Rattle.intake.specs.declared.Refusal.the-variants.{Ragged, TooMany, BadRow, NoRoom, OrderLength, OrderEntry, SplitQueue, NoOrder, EmptyBook, BookLength, BookOffset}
+use Rattle.intake.specs.declared.Reply.{Reply}
 
 -- a reply's number and the numbers that it carries, in order, 0 where there are fewer
 pub record Answer : Type 0 where
@@ -16,6 +17,10 @@ pub record Answer : Type 0 where
 
 abbrev pub answer : ℕ → ℕ → ℕ → Answer
 answer n a b = record { number = n; first = a; second = b }
+
+-- a reply as code has it
+abbrev pub said : Reply → Answer
+said r = answer (r .number) (r .first) (r .second)
 
 -- a refusal's number and what it carries
 abbrev pub refusalAnswer : Refusal → Answer
@@ -27,6 +32,9 @@ refusalAnswer OrderLength = answer 5 0 0
 refusalAnswer (OrderEntry place) = answer 6 place 0
 refusalAnswer (SplitQueue place) = answer 7 place 0
 refusalAnswer (NoOrder unplaced tried) = answer 8 unplaced tried
+refusalAnswer EmptyBook = answer 20 0 0
+refusalAnswer BookLength = answer 21 0 0
+refusalAnswer (BookOffset row) = answer 22 row 0
 
 -- a check refuses, or goes on
 pub data Check : Type 0 where

@@ -9,7 +9,7 @@ use Rattle.licence.specs.Row.{badField}
 use Rattle.order.specs.Table.{Table}
 use Rattle.intake.specs.Words.{rows, badRow, tableOf}
 use Rattle.intake.specs.Answer.{answer, refusalAnswer, refused, fine}
-use Rattle.intake.specs.Refusals.{tableRefusal}
+use Rattle.intake.specs.Refusals.{shapeRefusal, tableRefusal}
 use Rattle.intake.specs.declared.Intake.{Intake}
 use Rattle.intake.specs.declared.Intake.the-variants.{Rows, Refused}
 
@@ -25,6 +25,11 @@ pub record Holds (τ : Table) (k : ℕ) (c t j e key : List ℕ) : Type 0 where
 abbrev pub RowsRead : (words : List ℕ) (n : ℕ) (c t j e key : List ℕ) → Intake → Type 0
 RowsRead words n c t j e key (Rows m) = (m ≡ n) × (lowest n (badRow words) ≡ nowhere) × Holds (tableOf words) n c t j e key
 RowsRead words n c t j e key (Refused r) = (i : ℕ) × (lowest n (badRow words) ≡ at i) × (refusalAnswer r ≡ answer 3 i (badField words i))
+
+-- counting rows: their number, or why the words are no table
+abbrev pub Counted : (words : List ℕ) → Intake → Type 0
+Counted words (Rows n) = (shapeRefusal words ≡ fine) × (n ≡ rows words)
+Counted words (Refused r) = shapeRefusal words ≡ refused (refusalAnswer r)
 
 -- a table that is taken in: no check refuses, and the columns hold its numbers
 pub record TakenIn (words : List ℕ) (room n : ℕ) (c t j e key : List ℕ) : Type 0 where

@@ -2,7 +2,7 @@
 -- Assumes nothing.
 use Prim.Native.Nat.{ℕ, _%_, _≤_, _<_}
 use native.Mathlib.Omega.{arith}
-use mathlib.Core.Path.{_≡_, refl, subst}
+use mathlib.Core.Path.{_≡_, refl, sym, subst}
 use mathlib.Core.Bool.{Bool, true, false}
 use mathlib.Core.List.{List}
 use lib.ListN.{length}
@@ -14,8 +14,8 @@ use Rattle.licence.specs.Limit.{limit}
 use Rattle.licence.specs.Row.{badField}
 use Rattle.intake.specs.Words.{ragged, rows, badRow, tableOf}
 use Rattle.intake.specs.Answer.{answer, refusalAnswer, Answer, Check, refused, fine, refuseIf, refuseAt, _then_, Replied}
-use Rattle.intake.specs.Refusals.{tableRefusal}
-use Rattle.intake.specs.Holds.{Holds, RowsRead, TakenIn, IntakeIs}
+use Rattle.intake.specs.Refusals.{shapeRefusal, tableRefusal}
+use Rattle.intake.specs.Holds.{Holds, RowsRead, Counted, TakenIn, IntakeIs}
 use Rattle.intake.specs.declared.Refusal.{Refusal}
 use Rattle.intake.specs.declared.Intake.{Intake}
 use Rattle.intake.specs.declared.Intake.the-variants.{Rows, Refused}
@@ -53,26 +53,46 @@ module _ (words : List ℕ) where
   unfolding ragged
   by-six z e = rw (ne-eqb (length words) 0 z, eq-eqb (length words % 6) 0 e)
 
+  pub shape-1 : ragged words ≡ true → shapeRefusal words ≡ refused (answer 1 0 0)
+  unfolding shapeRefusal
+  shape-1 e = rw e
+
+  pub shape-2 : ragged words ≡ false → limit < rows words → shapeRefusal words ≡ refused (answer 2 0 0)
+  unfolding shapeRefusal
+  shape-2 e h = rw (e, lt-ltb limit (rows words) h)
+
+  pub shape-none : ragged words ≡ false → rows words ≤ limit → shapeRefusal words ≡ fine
+  unfolding shapeRefusal
+  shape-none e h = rw (e, le-ltb limit (rows words) h)
+
+  -- words that have the shape of a table
+  pub record Shaped : Type 0 where
+    pub whole : ragged words ≡ false
+    pub few : rows words ≤ limit
+
+  pub shaped : shapeRefusal words ≡ fine → Shaped
+  unfolding shapeRefusal
+  shaped e =
+      let a = then-fine (refuseIf (ragged words) (answer 1 0 0)) _ e in
+      record { whole = if-fine (ragged words) _ (a .0); few = ltb-false limit (rows words) (if-fine (ltb limit (rows words)) _ (a .1)) }
+
 module _ (words : List ℕ) (room : ℕ) where
-  pub refuse-1 : ragged words ≡ true → tableRefusal words room ≡ refused (answer 1 0 0)
+  pub refuse-shape : {a : Answer} → shapeRefusal words ≡ refused a → tableRefusal words room ≡ refused a
   unfolding tableRefusal
-  refuse-1 e = rw e
+  refuse-shape e = rw e
 
-  pub refuse-2 : ragged words ≡ false → limit < rows words → tableRefusal words room ≡ refused (answer 2 0 0)
-  unfolding tableRefusal
-  refuse-2 e h = rw (e, lt-ltb limit (rows words) h)
+  module _ {n : ℕ} (shape : shapeRefusal words ≡ fine) (count : n ≡ rows words) where
+    pub refuse-3 : {i : ℕ} → lowest n (badRow words) ≡ at i → tableRefusal words room ≡ refused (answer 3 i (badField words i))
+    unfolding tableRefusal
+    refuse-3 l = rw (shape, sym count, l)
 
-  pub refuse-3 : ragged words ≡ false → rows words ≤ limit → {i : ℕ} → lowest (rows words) (badRow words) ≡ at i → tableRefusal words room ≡ refused (answer 3 i (badField words i))
-  unfolding tableRefusal
-  refuse-3 e h l = rw (e, le-ltb limit (rows words) h, l)
+    pub refuse-4 : lowest n (badRow words) ≡ nowhere → room < n → tableRefusal words room ≡ refused (answer 4 0 0)
+    unfolding tableRefusal
+    refuse-4 l k = rw (shape, sym count, l, lt-ltb room n k)
 
-  pub refuse-4 : ragged words ≡ false → rows words ≤ limit → lowest (rows words) (badRow words) ≡ nowhere → room < rows words → tableRefusal words room ≡ refused (answer 4 0 0)
-  unfolding tableRefusal
-  refuse-4 e h l k = rw (e, le-ltb limit (rows words) h, l, lt-ltb room (rows words) k)
-
-  pub refuse-none : ragged words ≡ false → rows words ≤ limit → lowest (rows words) (badRow words) ≡ nowhere → rows words ≤ room → tableRefusal words room ≡ fine
-  unfolding tableRefusal
-  refuse-none e h l k = rw (e, le-ltb limit (rows words) h, l, le-ltb room (rows words) k)
+    pub refuse-none : lowest n (badRow words) ≡ nowhere → n ≤ room → tableRefusal words room ≡ fine
+    unfolding tableRefusal
+    refuse-none l k = rw (shape, sym count, l, le-ltb room n k)
 
   -- a table that no check refuses
   pub record Accepted : Type 0 where
@@ -84,14 +104,14 @@ module _ (words : List ℕ) (room : ℕ) where
   pub accepted : tableRefusal words room ≡ fine → Accepted
   unfolding tableRefusal
   accepted e =
-      let a = then-fine (refuseIf (ragged words) (answer 1 0 0)) _ e in
-      let b = then-fine (refuseIf (ltb limit (rows words)) (answer 2 0 0)) _ (a .1) in
-      let c = then-fine (refuseAt (lowest (rows words) (badRow words)) (λ i. answer 3 i (badField words i))) _ (b .1) in
+      let a = then-fine (shapeRefusal words) _ e in
+      let b = then-fine (refuseAt (lowest (rows words) (badRow words)) (λ i. answer 3 i (badField words i))) _ (a .1) in
+      let shape = shaped words (a .0) in
       record {
-        whole = if-fine (ragged words) _ (a .0);
-        few = ltb-false limit (rows words) (if-fine (ltb limit (rows words)) _ (b .0));
-        good = λ i l. good-row i (none-lowest (rows words) (badRow words) (at-fine _ _ (c .0)) i l);
-        roomy = ltb-false room (rows words) (if-fine (ltb room (rows words)) _ (c .1));
+        whole = shape .whole;
+        few = shape .few;
+        good = λ i l. good-row i (none-lowest (rows words) (badRow words) (at-fine _ _ (b .0)) i l);
+        roomy = ltb-false room (rows words) (if-fine (ltb room (rows words)) _ (b .1));
       }
     where
       good-row : (i : ℕ) → (Is (badRow words i) → ⊥) → badField words i ≡ 0
@@ -108,6 +128,16 @@ rows-all words n c t j e key h q = subst (RowsRead words n c t j e key) q h
 
 pub rows-refused : (words : List ℕ) (n : ℕ) (c t j e key : List ℕ) {r : Intake} {x : Refusal} → RowsRead words n c t j e key r → r ≡ Refused x → (i : ℕ) × (lowest n (badRow words) ≡ at i) × (refusalAnswer x ≡ answer 3 i (badField words i))
 rows-refused words n c t j e key h q = subst (RowsRead words n c t j e key) q h
+
+pub counted-rows : (words : List ℕ) {r : Intake} {n : ℕ} → Counted words r → r ≡ Rows n → (shapeRefusal words ≡ fine) × (n ≡ rows words)
+counted-rows words h q = subst (Counted words) q h
+
+pub counted-refused : (words : List ℕ) {r : Intake} {x : Refusal} → Counted words r → r ≡ Refused x → shapeRefusal words ≡ refused (refusalAnswer x)
+counted-refused words h q = subst (Counted words) q h
+
+-- words that are no table are none to take in either
+pub counted-out : (words : List ℕ) (room : ℕ) (c t j e key : List ℕ) {r : Intake} {x : Refusal} → Counted words r → r ≡ Refused x → IntakeIs words room c t j e key r
+counted-out words room c t j e key h q = subst (IntakeIs words room c t j e key) (sym q) (refuse-shape words room (counted-refused words h q))
 
 pub taken-in : (words : List ℕ) (room : ℕ) (c t j e key : List ℕ) {r : Intake} {n : ℕ} → IntakeIs words room c t j e key r → r ≡ Rows n → TakenIn words room n c t j e key
 taken-in words room c t j e key h q = subst (IntakeIs words room c t j e key) q h

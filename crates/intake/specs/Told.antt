@@ -6,13 +6,13 @@ use native.Mathlib.Omega.{arith}
 use mathlib.Core.Path.{_≡_, refl, subst}
 use mathlib.Core.Bool.{Bool, true, false, cond}
 use mathlib.Core.List.{List}
-use lib.Dec.{eqb, lit≤}
+use lib.Dec.{eqb, lit≤, lit<}
 use borrow.Author.Tests.{ne-eqb}
 use Rattle.sums.specs.Masks.{Place, at, nowhere}
 use Rattle.intake.specs.Answer.{Answer, refusalAnswer, Check, refused, fine, refuseIf, refuseAt, _then_}
-use Rattle.intake.specs.Refusals.{tableRefusal}
+use Rattle.intake.specs.Refusals.{shapeRefusal, tableRefusal}
 use Rattle.intake.specs.declared.Refusal.{Refusal}
-use Rattle.intake.specs.declared.Refusal.the-variants.{Ragged, TooMany, BadRow, NoRoom, OrderLength, OrderEntry, SplitQueue, NoOrder}
+use Rattle.intake.specs.declared.Refusal.the-variants.{Ragged, TooMany, BadRow, NoRoom, OrderLength, OrderEntry, SplitQueue, NoOrder, EmptyBook, BookLength, BookOffset}
 
 unfoldable pub toldRefusal : Answer → Refusal
 toldRefusal a =
@@ -22,7 +22,10 @@ toldRefusal a =
     (cond (eqb (a .number) 4) NoRoom
     (cond (eqb (a .number) 5) OrderLength
     (cond (eqb (a .number) 6) (OrderEntry (a .first))
-    (cond (eqb (a .number) 7) (SplitQueue (a .first)) (NoOrder (a .first) (a .second))))))))
+    (cond (eqb (a .number) 7) (SplitQueue (a .first))
+    (cond (eqb (a .number) 8) (NoOrder (a .first) (a .second))
+    (cond (eqb (a .number) 20) EmptyBook
+    (cond (eqb (a .number) 21) BookLength (BookOffset (a .first)))))))))))
 
 pub told-refusal : (r : Refusal) → toldRefusal (refusalAnswer r) ≡ r
 unfolding toldRefusal
@@ -34,19 +37,25 @@ told-refusal OrderLength = refl
 told-refusal (OrderEntry p) = refl
 told-refusal (SplitQueue p) = refl
 told-refusal (NoOrder u t) = refl
+told-refusal EmptyBook = refl
+told-refusal BookLength = refl
+told-refusal (BookOffset i) = refl
 
--- and none has a number past 8
-pub refusal-small : (r : Refusal) → refusalAnswer r .number ≤ 8
-refusal-small Ragged = lit≤ tt
-refusal-small TooMany = lit≤ tt
-refusal-small (BadRow i f) = lit≤ tt
-refusal-small NoRoom = lit≤ tt
-refusal-small OrderLength = lit≤ tt
-refusal-small (OrderEntry p) = lit≤ tt
-refusal-small (SplitQueue p) = lit≤ tt
-refusal-small (NoOrder u t) = lit≤ tt
+-- and none has a number of three digits: those are for answers
+pub refusal-small : (r : Refusal) → refusalAnswer r .number < 100
+refusal-small Ragged = lit< tt
+refusal-small TooMany = lit< tt
+refusal-small (BadRow i f) = lit< tt
+refusal-small NoRoom = lit< tt
+refusal-small OrderLength = lit< tt
+refusal-small (OrderEntry p) = lit< tt
+refusal-small (SplitQueue p) = lit< tt
+refusal-small (NoOrder u t) = lit< tt
+refusal-small EmptyBook = lit< tt
+refusal-small BookLength = lit< tt
+refusal-small (BookOffset i) = lit< tt
 
-pub not-refusal : (r : Refusal) (n : ℕ) → 8 < n → eqb (refusalAnswer r .number) n ≡ false
+pub not-refusal : (r : Refusal) (n : ℕ) → 100 ≤ n → eqb (refusalAnswer r .number) n ≡ false
 not-refusal r n l = ne-eqb (refusalAnswer r .number) n (λ e. omega (arith, refusal-small r))
 
 -- ---- the numbers of the checks
@@ -83,6 +92,10 @@ module _ {most : ℕ} where
   at-small nowhere r i h = none
 
 -- the checks of a lent table
+pub shape-small : (words : List ℕ) → Small 2 (shapeRefusal words)
+unfolding shapeRefusal
+shape-small words = search (then-small, if-small, lit≤) depth 5
+
 pub table-small : (words : List ℕ) (room : ℕ) → Small 4 (tableRefusal words room)
 unfolding tableRefusal
-table-small words room = search (then-small, if-small, at-small, lit≤) depth 7
+table-small words room = then-small (wider-small (lit≤ tt) (shape-small words)) (search (then-small, if-small, at-small, lit≤) depth 7)

@@ -3,7 +3,7 @@
 -- Assumes nothing.
 use Prim.Native.Nat.{ℕ, _≤_, _<_}
 use native.Mathlib.Omega.{arith}
-use mathlib.Core.Path.{_≡_}
+use mathlib.Core.Path.{_≡_, refl}
 use mathlib.Core.Logic.{_⊎_, inl, inr}
 use mathlib.Core.Bool.{not}
 use mathlib.Core.List.{List}
@@ -20,7 +20,7 @@ use Rattle.order.specs.Split.{order-of, together-of, fine-of}
 use Rattle.intake.specs.Words.{rows, badRow, tableOf}
 use Rattle.intake.specs.Answer.{answer, fine, refuseIf, refuseAt}
 use Rattle.intake.specs.Refusals.{tableRefusal}
-use Rattle.intake.specs.Laws.{then-fine, if-fine, at-fine, refuse-none, Accepted, accepted}
+use Rattle.intake.specs.Laws.{then-fine, if-fine, at-fine, shape-none, refuse-none, Accepted, accepted}
 use Rattle.judge.specs.Judged.{orderRefusal, refusal}
 
 -- the table is accepted, and the order has each of its rows once, with each FIFO kept together
@@ -76,7 +76,7 @@ module _ {words o : List ℕ} {room : ℕ} (known : Fine words o room) where
   unfolding orderRefusal
   order-fine =
       rw (
-        refuse-none words room (known .accepted .whole) (known .accepted .few) (lowest-none (rows words) (badRow words) (λ k l h. rw (known .accepted .good k l) at h)) (known .accepted .roomy),
+        refuse-none words room (shape-none words (known .accepted .whole) (known .accepted .few)) refl (lowest-none (rows words) (badRow words) (λ k l h. rw (known .accepted .good k l) at h)) (known .accepted .roomy),
         eq-eqb (length o) (rows words) (known .count),
         lowest-none (rows words) (badEntry (rows words) o) no-bad-entry,
         lowest-none (rows words) (resumes (tableOf words .key) o) (fine-of (tableOf words) o (known .count) (known .together)),

@@ -16,7 +16,7 @@ use Rattle.licence.specs.Row.{sizeAllowed, firstBad, badField, lengthOf, bitTim
 use Rattle.order.specs.Table.{base}
 use Rattle.order.specs.Orders.{mem, badEntry, resumes}
 use Rattle.intake.specs.Words.{ragged}
-use Rattle.intake.specs.Refusals.{tableRefusal}
+use Rattle.intake.specs.Refusals.{shapeRefusal, tableRefusal}
 use Rattle.intake.specs.Answer.{Answer, answer}
 use Rattle.judge.specs.Judged.{orderRefusal, Judged}
 use Rattle.finder.specs.Placing.{rising, leads}
@@ -121,5 +121,5 @@ all-right (d ∷ l) h c (List·Memᴰ·head e) = subst Right (sym e) (right d (a
 all-right (d ∷ l) h c (List·Memᴰ·tail m) = all-right l (and-right (test d) (test-all l) h) c m
 
 pub as-written : AsWritten
-unfolding tableRefusal ragged limit badField firstBad sizeAllowed orderRefusal badEntry resumes lowest orElse anyBelow bandKey bitTimes mem base demand over load ceil reckon climb decLe ℕ-discrete same-list follow leads rising
+unfolding tableRefusal shapeRefusal ragged limit badField firstBad sizeAllowed orderRefusal badEntry resumes lowest orElse anyBelow bandKey bitTimes mem base demand over load ceil reckon climb decLe ℕ-discrete same-list follow leads rising
 as-written = all-right cases tt

@@ -3,13 +3,12 @@
 use Prim.Native.Nat.{ℕ}
 use mathlib.Core.Path.{_≡_, ap}
 use mathlib.Core.List.{List}
-use Rattle.intake.specs.Answer.{Answer}
+use Rattle.intake.specs.Answer.{Answer, said}
+use Rattle.intake.specs.declared.Reply.{Reply}
 use Rattle.judge.specs.Judged.{Judged}
 use Rattle.judge.specs.Outcome.{one-outcome as one-judged}
 use Rattle.finder.specs.Searched.{Searched}
 use Rattle.finder.specs.Outcome.{one-outcome as one-searched}
-use Rattle.telhavina.specs.declared.Reply.{Reply}
-use Rattle.telhavina.specs.Replies.{said}
 
 -- `telhavina_judge`: for any table, order and lent list, no two replies and no two lists afterwards
 abbrev pub OneJudgeReply : Type 0

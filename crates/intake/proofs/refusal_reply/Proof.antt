@@ -1,7 +1,7 @@
--- `telhavina::refusal_reply` meets its contract, case by case. Assumes nothing.
+-- `intake::refusal_reply` meets its contract, case by case. Assumes nothing.
 use borrow.Author.Needs.{needs}
-use Rattle.telhavina.proofs.refusal_reply.Statement.{statement}
-use Rattle.telhavina.proofs.refusal_reply.Tie as tie
+use Rattle.intake.proofs.refusal_reply.Statement.{statement}
+use Rattle.intake.proofs.refusal_reply.Tie as tie
 
 pub refusal-reply-spec : {M : Type 1} → statement M
 refusal-reply-spec =
@@ -23,6 +23,15 @@ refusal-reply-spec =
     (λ c κs. search needs)
     (λ c. search needs)
     (λ c κs. search needs)
+    (λ c. search needs)
+    (λ c κs. search needs)
+    (λ c. search needs)
+    (λ c κs. search needs)
+    (λ c. search needs)
+    (λ c κs. search needs)
+    (λ c. cc)
+    (λ c. cc)
+    (λ c. cc)
     (λ c. cc)
     (λ c. cc)
     (λ c. cc)
