@@ -17,8 +17,8 @@ use Rattle.order.specs.Counting.{order-length}
 use Rattle.intake.specs.Words.{rows, tableOf}
 use Rattle.intake.specs.Answer.{Answer, Check, refused, fine}
 use Rattle.intake.specs.Refusals.{tableRefusal}
-use Rattle.intake.specs.Laws.{accepted}
-use Rattle.intake.specs.Told.{toldRefusal, told-refusal, not-refusal, number-small, table-small}
+use Rattle.intake.specs.Laws.{meet, replied-one, accepted}
+use Rattle.intake.specs.Told.{toldRefusal, told-refusal, not-refusal, number-small, replied-fine, table-small}
 use Rattle.finder.specs.Placing.{Ending, found, none, leads, free, Finds}
 use Rattle.finder.specs.Right.{Right, finds-one, finds-right}
 use Rattle.finder.specs.Tried.{TriedWithin, tried-bound}
@@ -95,30 +95,17 @@ ends-right words room e = finds-right (tableOf words) free (λ k l. row-allowed 
 
 -- only such a table is answered with a number past 4
 unrefused : (words before after : List ℕ) (a : Answer) → Searched words before after a → 4 < a .number → tableRefusal words (length before) ≡ fine
-unrefused words before after a s l = go (tableRefusal words (length before)) refl
-  where
-    go : (c : Check) → tableRefusal words (length before) ≡ c → tableRefusal words (length before) ≡ fine
-    go (refused r) e = absurd (omega (arith, number-small (table-small words (length before)) e, ap (λ (x : Answer). x .number) (s .refusing r e .0)))
-    go fine e = e
+unrefused words before after a s l = replied-fine (table-small words (length before)) s l
 
 -- ---- the proofs
 
 pub one-outcome : OneOutcome
-one-outcome words before after after′ a a′ s s′ = go (tableRefusal words (length before)) refl
+one-outcome words before after after′ a a′ s s′ =
+    replied-one s s′ (λ e x y. one-told (x .ending) (x .told) (subst (λ (r : Ending). Told r before after′ a′) (finds-one (tableOf words) free (y .follows) (x .follows)) (y .told)))
   where
-    meet : {r : Answer} {list : List ℕ} → (a ≡ r) × (after ≡ list) → (a′ ≡ r) × (after′ ≡ list) → (a ≡ a′) × (after ≡ after′)
-    meet x y = (x .0 ∙ sym (y .0), x .1 ∙ sym (y .1))
-
     one-told : (r : Ending) → Told r before after a → Told r before after′ a′ → (a ≡ a′) × (after ≡ after′)
     one-told (found o t) x y = meet x y
     one-told (none u t) x y = meet x y
-
-    go : (c : Check) → tableRefusal words (length before) ≡ c → (a ≡ a′) × (after ≡ after′)
-    go (refused r) e = meet (s .refusing r e) (s′ .refusing r e)
-    go fine e =
-        let x = s .answering e in
-        let y = s′ .answering e in
-        one-told (x .ending) (x .told) (subst (λ (r : Ending). Told r before after′ a′) (finds-one (tableOf words) free (y .follows) (x .follows)) (y .told))
 
 -- each case of the enum has an answer of its own
 told : Answer → Finding

@@ -1,9 +1,9 @@
 -- When each of the refusals 1 to 4 is given, and what a table that none refuses is known to be.
 -- Assumes nothing.
-use Prim.Native.Nat.{ℕ, _%_, _≤_, _<_}
+use Prim.Native.Nat.{ℕ, _*_, _%_, _≤_, _<_}
 use native.Mathlib.Omega.{arith}
-use mathlib.Core.Path.{_≡_, refl, sym, subst}
-use mathlib.Core.Bool.{Bool, true, false}
+use mathlib.Core.Path.{_≡_, refl, sym, subst, _∙_}
+use mathlib.Core.Bool.{Bool, true, false, not, _||_}
 use mathlib.Core.List.{List}
 use lib.ListN.{length}
 use lib.Dec.{T as Is, eqb, ltb}
@@ -40,6 +40,19 @@ replied-refused e = record { refusing = λ r q. (cc, refl); answering = λ q. ab
 pub replied-answered : {check : Check} {before after : List ℕ} {a : Answer} {Answered : Type 0} → check ≡ fine → Answered → Replied check before after a Answered
 replied-answered e h = record { refusing = λ r q. absurd (let z : _≡_ {A = ℕ} 0 1 = cc in omega arith); answering = λ q. h }
 
+-- what agrees with one answer and list agrees
+pub meet : {a a′ r : Answer} {after after′ list : List ℕ} → (a ≡ r) × (after ≡ list) → (a′ ≡ r) × (after′ ≡ list) → (a ≡ a′) × (after ≡ after′)
+meet x y = (x .0 ∙ sym (y .0), x .1 ∙ sym (y .1))
+
+-- two replies: where they are answered, they are one if their answers are
+pub replied-one : {check : Check} {before after after′ : List ℕ} {a a′ : Answer} {Answered Answered′ : Type 0} → Replied check before after a Answered → Replied check before after′ a′ Answered′
+    → (check ≡ fine → Answered → Answered′ → (a ≡ a′) × (after ≡ after′)) → (a ≡ a′) × (after ≡ after′)
+replied-one {check} {after = after} {after′} {a} {a′} x y one = go check refl
+  where
+    go : (c : Check) → check ≡ c → (a ≡ a′) × (after ≡ after′)
+    go (refused r) e = meet (x .refusing r e) (y .refusing r e)
+    go fine e = one e (x .answering e) (y .answering e)
+
 module _ (words : List ℕ) where
   pub no-words : length words ≡ 0 → ragged words ≡ true
   unfolding ragged
@@ -52,6 +65,18 @@ module _ (words : List ℕ) where
   pub by-six : (length words ≡ 0 → ⊥) → length words % 6 ≡ 0 → ragged words ≡ false
   unfolding ragged
   by-six z e = rw (ne-eqb (length words) 0 z, eq-eqb (length words % 6) 0 e)
+
+  pub whole-words : ragged words ≡ false → length words ≡ 6 * rows words
+  unfolding ragged
+  whole-words e = go (eqb (length words) 0) (eqb (length words % 6) 0) refl refl e
+    where
+      go : (a b : Bool) → eqb (length words) 0 ≡ a → eqb (length words % 6) 0 ≡ b → (a || not b) ≡ false → length words ≡ 6 * rows words
+      go true b p q e = absurd (let z : _≡_ {A = ℕ} 0 1 = cc in omega arith)
+      go false true p q e = omega (arith, eqb-true (length words % 6) 0 q)
+      go false false p q e = absurd (let z : _≡_ {A = ℕ} 0 1 = cc in omega arith)
+
+  pub some-words : ragged words ≡ false → length words ≡ 0 → ⊥
+  some-words e z = absurd (let q : true ≡ false = sym (no-words z) ∙ e in let n : _≡_ {A = ℕ} 0 1 = cc in omega arith)
 
   pub shape-1 : ragged words ≡ true → shapeRefusal words ≡ refused (answer 1 0 0)
   unfolding shapeRefusal

@@ -3,13 +3,13 @@
 use Prim.Native.Nat.{ℕ, _≤_, _<_}
 use native.Mathlib.Nat.{le-trans}
 use native.Mathlib.Omega.{arith}
-use mathlib.Core.Path.{_≡_, refl, subst}
+use mathlib.Core.Path.{_≡_, refl, ap, subst}
 use mathlib.Core.Bool.{Bool, true, false, cond}
 use mathlib.Core.List.{List}
 use lib.Dec.{eqb, lit≤, lit<}
 use borrow.Author.Tests.{ne-eqb}
 use Rattle.sums.specs.Masks.{Place, at, nowhere}
-use Rattle.intake.specs.Answer.{Answer, refusalAnswer, Check, refused, fine, refuseIf, refuseAt, _then_}
+use Rattle.intake.specs.Answer.{Answer, refusalAnswer, Check, refused, fine, refuseIf, refuseAt, _then_, Replied}
 use Rattle.intake.specs.Refusals.{shapeRefusal, tableRefusal}
 use Rattle.intake.specs.declared.Refusal.{Refusal}
 use Rattle.intake.specs.declared.Refusal.the-variants.{Ragged, TooMany, BadRow, NoRoom, OrderLength, OrderEntry, SplitQueue, NoOrder, EmptyBook, BookLength, BookOffset}
@@ -71,6 +71,14 @@ number-small {most} {c} {r} h e = go (subst (Small most) e h)
   where
     go : Small most (refused r) → (1 ≤ r .number) × (r .number ≤ most)
     go (small k l) = (k, l)
+
+-- so what is replied with another number was not refused
+pub replied-fine : {most : ℕ} {c : Check} {before after : List ℕ} {a : Answer} {Answered : Type 0} → Small most c → Replied c before after a Answered → most < a .number → c ≡ fine
+replied-fine {most} {c} {a = a} h x l = go c refl
+  where
+    go : (d : Check) → c ≡ d → c ≡ fine
+    go (refused r) e = absurd (omega (arith, number-small h e .1, ap (λ (y : Answer). y .number) (x .refusing r e .0)))
+    go fine e = e
 
 -- then no more than any wider bound
 pub wider-small : {most more : ℕ} {c : Check} → most ≤ more → Small most c → Small more c

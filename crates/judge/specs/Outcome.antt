@@ -18,7 +18,8 @@ use Rattle.order.specs.Figures.{figure-one, figure-passes, figure-pos}
 use Rattle.intake.specs.Words.{rows, tableOf}
 use Rattle.intake.specs.Answer.{Answer, answer, Check, refused, fine}
 use Rattle.judge.specs.Judged.{judgementAnswer, orderRefusal, refusal, LateAt, ShownAt, Written, AllPassed, SomeLate, Judged}
-use Rattle.intake.specs.Told.{toldRefusal, told-refusal, not-refusal, then-small, if-small, at-small, wider-small, number-small, table-small}
+use Rattle.intake.specs.Laws.{replied-one}
+use Rattle.intake.specs.Told.{toldRefusal, told-refusal, not-refusal, Small, then-small, if-small, at-small, wider-small, number-small, replied-fine, table-small}
 use Rattle.judge.specs.declared.Judgement.{Judgement}
 use Rattle.judge.specs.declared.Judgement.the-variants.{Passed, Late, Refused}
 use Rattle.judge.specs.Fine.{Fine, fine-order, some-bits, entry-row, place-of}
@@ -118,18 +119,8 @@ module _ (τ : Table) (order : List ℕ) where
       go i (no l) = w .beyond i (omega arith) ∙ sym (w′ .beyond i (omega arith))
 
 pub one-outcome : OneOutcome
-one-outcome words order before after after′ a a′ j j′ = go (refusal words order (length before)) refl
-  where
-    go : (c : Check) → refusal words order (length before) ≡ c → (a ≡ a′) × (after ≡ after′)
-    go (refused r) e =
-        let x = j .refusing r e in
-        let y = j′ .refusing r e in
-        (x .0 ∙ sym (y .0), x .1 ∙ sym (y .1))
-    go fine e =
-        let known = fine-order words order (length before) e in
-        let x = j .answering e in
-        let y = j′ .answering e in
-        (one-verdict (tableOf words) order (x .verdict) (y .verdict), one-list (tableOf words) order (place-of known) (x .written) (y .written))
+one-outcome words order before after after′ a a′ j j′ =
+    replied-one j j′ (λ e x y. (one-verdict (tableOf words) order (x .verdict) (y .verdict), one-list (tableOf words) order (place-of (fine-order words order (length before) e)) (x .written) (y .written)))
 
 -- each case of the enum has an answer of its own
 told : Answer → Judgement
@@ -157,24 +148,23 @@ passing-answered words order before after a j e h =
     says-passed (tableOf words) order (λ p l. h p (omega arith)) (j .answering e .verdict)
 
 -- the checks of the table have numbers up to 4, and those of the order 5 to 7
-pub refused-small : RefusedSmall
+seven : (words order : List ℕ) (room : ℕ) → Small 7 (refusal words order room)
 unfolding orderRefusal
-refused-small words order room r e =
-    number-small (then-small (wider-small (lit≤ tt) (table-small words room)) (search (then-small, if-small, at-small, lit≤))) e
+seven words order room = then-small (wider-small (lit≤ tt) (table-small words room)) (search (then-small, if-small, at-small, lit≤))
+
+pub refused-small : RefusedSmall
+refused-small words order room r e = number-small (seven words order room) e
 
 pub passed-means : PassedMeans
-passed-means words order before after a j is-100 = go (refusal words order (length before)) refl
-  where
-    go : (c : Check) → refusal words order (length before) ≡ c → Passing words order before after
-    go (refused r) e = absurd (omega (arith, refused-small words order (length before) r e, ap (λ (x : Answer). x .number) (j .refusing r e .0)))
-    go fine e =
-        let known = fine-order words order (length before) e in
-        let x = j .answering e in
-        let all = only-passed (tableOf words) order is-100 (x .verdict) in
-        record {
-          unrefused = e;
-          known = known;
-          passing = λ p l. all .passing p (omega arith);
-          written = x .written;
-          figures = λ p l. shown-figure (tableOf words) order p (all .passing p l) (x .written .figures p l);
-        }
+passed-means words order before after a j is-100 =
+    let e = replied-fine (seven words order (length before)) j (omega (arith, is-100)) in
+    let known = fine-order words order (length before) e in
+    let x = j .answering e in
+    let all = only-passed (tableOf words) order is-100 (x .verdict) in
+    record {
+      unrefused = e;
+      known = known;
+      passing = λ p l. all .passing p (omega arith);
+      written = x .written;
+      figures = λ p l. shown-figure (tableOf words) order p (all .passing p l) (x .written .figures p l);
+    }

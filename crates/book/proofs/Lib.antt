@@ -1,0 +1,3 @@
+-- Laws that the proofs of this crate cite. Assumes nothing.
+mod Room
+mod Stores
