@@ -1,5 +1,5 @@
 /*
- * telhavina: judges a priority order of the CAN messages on one bus, and finds one.
+ * telhavina: judges a priority order of the CAN messages on one bus, and finds one; reads and writes books of licences.
  *
  * Link with libtelhavina.a. The functions allocate nothing, keep nothing between calls, and need nothing but memcpy and memset. Every
  * input is answered or refused by number; nothing has to be checked beforehand.
@@ -21,6 +21,8 @@ extern "C" {
  *   100  passed                0                  0             the figure of row i at place i
  *   101  late                  first late place   0             the same, with 0 for each late row
  *   102  found                 bands tried        0             the row numbers, highest priority first, from place 0 on
+ *   103  book read             rows               0             the words, six a row, from place 0 on
+ *   104  book written          bytes              0             the book, from byte 0 on
  *     1  ragged                0                  0             untouched
  *     2  too many rows         0                  0             untouched
  *     3  bad row               row                field         untouched
@@ -29,9 +31,12 @@ extern "C" {
  *     6  order entry           position           0             untouched
  *     7  split queue           position           0             untouched
  *     8  no order              unplaced bands     bands tried   untouched
+ *    20  empty book            0                  0             untouched
+ *    21  book length           0                  0             untouched
+ *    22  book offset           row                0             untouched
  *
- * Judging replies 100, 101 or 1 to 7; finding replies 102, 1 to 4 or 8. Rows, places and positions count from 0, fields
- * from 1. Of several refusals the one with the least number is given.
+ * Judging replies 100, 101 or 1 to 7; finding replies 102, 1 to 4 or 8; reading a book 103, 20, 2, 21, 22 or 4; writing one 104,
+ * 1, 2 or 4. Rows, places and positions count from 0, fields from 1. Of several refusals the first in these lists is given.
  */
 typedef struct telhavina_reply {
     uint32_t number;
@@ -78,6 +83,36 @@ telhavina_reply telhavina_judge(const uint32_t *table, size_t table_len,
  */
 telhavina_reply telhavina_find(const uint32_t *table, size_t table_len,
                                uint32_t *order, size_t order_len);
+
+/*
+ * Reads a book of licences: a table as a file.
+ *
+ * book     the row count in two bytes, 1 to 64; the offset of each row from the book's start, four bytes a row; all high byte
+ *          first. Then the rows at once and in order, 24 bytes each: six words of four bytes, low byte first. The book ends with the
+ *          last row, so it has 2 + 28 bytes a row.
+ * words    room for six words a row, or more. Places past the last row's are never written.
+ *
+ * Each list is a pointer, not null and that of the words aligned, and then its length in bytes or in words; of a list of length
+ * 0 nothing is read. The two lists may not overlap. The words are as they stand in the book: whether they are allowed is asked by
+ * judging and finding.
+ *
+ * Refused: 20 under two bytes, or a count of 0; 2 a count over 64; 21 another length than that of a book with so many rows; 22 a row
+ * whose offset is not where it starts, with the first such row; 4 no room for the words.
+ */
+telhavina_reply telhavina_book_read(const uint8_t *book, size_t book_len,
+                                    uint32_t *words, size_t words_len);
+
+/*
+ * Writes a book of licences. What it writes, reading gives back word for word; and what reading takes, it writes again byte for
+ * byte.
+ *
+ * words    six words a row, 1 to 64 rows, any words
+ * book     room for 2 + 28 bytes a row, or more. Bytes past the book's last are never written.
+ *
+ * The lists are lent as for reading, and may not overlap.
+ */
+telhavina_reply telhavina_book_write(const uint32_t *words, size_t words_len,
+                                     uint8_t *book, size_t book_len);
 
 #ifdef __cplusplus
 }

@@ -1,13 +1,13 @@
--- What is left to store, before and after one step: one byte, one entry, one of equal pieces. Assumes nothing.
-use Prim.Native.Nat.{ℕ, suc, _+_, _-_, _*_, _/_, _%_, _<_}
+-- What is left to store, before and after one step: one byte, one entry. Assumes nothing.
+use Prim.Native.Nat.{ℕ, suc, _+_, _-_, _/_, _%_, _<_}
 use native.Mathlib.Omega.{arith}
 use mathlib.Core.Path.{_≡_, refl, sym, ap, _∙_}
 use mathlib.Core.List.{List, [], _∷_}
-use lib.ListN.{length, set}
+use lib.ListN.{set}
 use lib.Seq.{sets}
 use Rattle.book.specs.Bytes.{low, high, each}
 use Rattle.book.specs.ByteLaws.{high-next, high-length}
-use Rattle.book.specs.ListLaws.{sets-append, sets-last}
+use Rattle.book.specs.ListLaws.{sets-last}
 
 pub low-stored : (book : List ℕ) (p width k rest : ℕ) → k < width → sets (set book (p + k) (rest % 256)) (p + (k + 1)) (low (width - (k + 1)) (rest / 256)) ≡ sets book (p + k) (low (width - k) rest)
 low-stored book p width k rest l =
@@ -28,12 +28,3 @@ entry-stored l v m n h =
     let left : n - m ≡ suc (n - (m + 1)) = omega arith in
     let there : suc m ≡ m + 1 = omega arith in
     rw (left, ← there) refl
-
--- one piece of those from i to n - 1, each of length w
-pub piece-stored : (l : List ℕ) (f : ℕ → List ℕ) (p w i n : ℕ) → length (f i) ≡ w → i < n → sets (sets l (p + w * i) (f i)) (p + w * (i + 1)) (each f (i + 1) (n - (i + 1))) ≡ sets l (p + w * i) (each f i (n - i))
-piece-stored l f p w i n long h =
-    let left : n - i ≡ suc (n - (i + 1)) = omega arith in
-    let there : p + w * (i + 1) ≡ p + w * i + length (f i) = omega (arith, long) in
-    ap (λ (q : ℕ). sets (sets l (p + w * i) (f i)) q (each f (i + 1) (n - (i + 1)))) there
-    ∙ sym (sets-append l (p + w * i) (f i) (each f (i + 1) (n - (i + 1))))
-    ∙ ap (λ (k : ℕ). sets l (p + w * i) (each f i k)) (sym left)

@@ -76,6 +76,15 @@ pub each-cong : (f g : ℕ → List ℕ) (i k : ℕ) → ((j : ℕ) → i ≤ j 
 each-cong f g i zero h = refl
 each-cong f g i (suc k) h = ap₂ (λ (x y : List ℕ). x ++ y) (h i (omega arith) (omega arith)) (each-cong f g (i + 1) k (λ j a b. h j (omega arith) (omega arith)))
 
+-- one of those from i to n - 1, and the others
+pub each-step : (f : ℕ → List ℕ) (i n : ℕ) → i < n → each f i (n - i) ≡ f i ++ each f (i + 1) (n - (i + 1))
+each-step f i n h = let left : n - i ≡ suc (n - (i + 1)) = omega arith in ap (each f i) left
+
+-- what is left to store, before and after one of them is
+pub each-stored : (l : List ℕ) (f : ℕ → List ℕ) (p q i n : ℕ) → q ≡ p + length (f i) → i < n → sets (sets l p (f i)) q (each f (i + 1) (n - (i + 1))) ≡ sets l p (each f i (n - i))
+each-stored l f p q i n there h =
+    ap (λ (e : ℕ). sets (sets l p (f i)) e (each f (i + 1) (n - (i + 1)))) there ∙ sym (sets-append l p (f i) (each f (i + 1) (n - (i + 1)))) ∙ ap (sets l p) (sym (each-step f i n h))
+
 module _ (f : ℕ → List ℕ) (w : ℕ) (long : (j : ℕ) → length (f j) ≡ w) where
   pub each-length : (i k : ℕ) → length (each f i k) ≡ w * k
   each-length i zero = omega arith

@@ -5,6 +5,8 @@ use mathlib.Core.Path.{_≡_, ap}
 use mathlib.Core.List.{List}
 use Rattle.intake.specs.Answer.{Answer, said}
 use Rattle.intake.specs.declared.Reply.{Reply}
+use Rattle.book.specs.Replies.{BookRead, BookWritten}
+use Rattle.book.specs.Outcome.{one-read, one-written}
 use Rattle.judge.specs.Judged.{Judged}
 use Rattle.judge.specs.Outcome.{one-outcome as one-judged}
 use Rattle.finder.specs.Searched.{Searched}
@@ -20,6 +22,15 @@ abbrev pub OneFindReply : Type 0
 OneFindReply = (words before after after′ : List ℕ) (r r′ : Reply)
     → Searched words before after (said r) → Searched words before after′ (said r′) → (r ≡ r′) × (after ≡ after′)
 
+-- `telhavina_book_read` and `telhavina_book_write`: the same
+abbrev pub OneBookReadReply : Type 0
+OneBookReadReply = (book before after after′ : List ℕ) (r r′ : Reply)
+    → BookRead book before after (said r) → BookRead book before after′ (said r′) → (r ≡ r′) × (after ≡ after′)
+
+abbrev pub OneBookWriteReply : Type 0
+OneBookWriteReply = (words before after after′ : List ℕ) (r r′ : Reply)
+    → BookWritten words before after (said r) → BookWritten words before after′ (said r′) → (r ≡ r′) × (after ≡ after′)
+
 same-reply : (r r′ : Reply) → said r ≡ said r′ → r ≡ r′
 same-reply r r′ e = λ i. record { number = ap (λ (a : Answer). a .number) e i; first = ap (λ (a : Answer). a .first) e i; second = ap (λ (a : Answer). a .second) e i }
 
@@ -28,3 +39,9 @@ one-judge-reply words order before after after′ r r′ j j′ = let x = one-ju
 
 pub one-find-reply : OneFindReply
 one-find-reply words before after after′ r r′ j j′ = let x = one-searched words before after after′ (said r) (said r′) j j′ in (same-reply r r′ (x .0), x .1)
+
+pub one-book-read-reply : OneBookReadReply
+one-book-read-reply book before after after′ r r′ j j′ = let x = one-read book before after after′ (said r) (said r′) j j′ in (same-reply r r′ (x .0), x .1)
+
+pub one-book-write-reply : OneBookWriteReply
+one-book-write-reply words before after after′ r r′ j j′ = let x = one-written words before after after′ (said r) (said r′) j j′ in (same-reply r r′ (x .0), x .1)

@@ -1,6 +1,7 @@
 // What C and Rust call. Nothing is decided here: each function hands its lists on, and gives the answer its number.
 ghost use mathlib.Core.Path.{_≡_};
 ghost use Rattle.intake.specs.Answer.{said};
+ghost use Rattle.book.specs.Replies.{readingAnswer, writingAnswer, BookRead, BookWritten};
 ghost use Rattle.judge.specs.Judged.{judgementAnswer, Judged};
 ghost use Rattle.finder.specs.Searched.{findingAnswer, Searched};
 
@@ -23,6 +24,24 @@ fn finding_reply(f: finder::Finding) -> intake::Reply
     }
 }
 
+fn reading_reply(r: book::Reading) -> intake::Reply
+    ensures { λ x. ⌜ said x ≡ readingAnswer r ⌝ }
+{
+    match r {
+        book::Reading::Rows(n) => intake::numbered(103, n, 0),
+        book::Reading::Refused(refusal) => intake::refusal_reply(refusal),
+    }
+}
+
+fn writing_reply(w: book::Writing) -> intake::Reply
+    ensures { λ x. ⌜ said x ≡ writingAnswer w ⌝ }
+{
+    match w {
+        book::Writing::Bytes(n) => intake::numbered(104, n, 0),
+        book::Writing::Refused(refusal) => intake::refusal_reply(refusal),
+    }
+}
+
 // Judges an order: see include/telhavina.h.
 #[no_mangle]
 pub extern "C" fn telhavina_judge(table: &[u32], order: &[u32], figures: &mut [u32]) -> intake::Reply
@@ -37,4 +56,20 @@ pub extern "C" fn telhavina_find(table: &[u32], order: &mut [u32]) -> intake::Re
     ensures { λ r. ⌜ Searched (now (table .entry)) (now (order .entry)) (now (order .exit)) (said r) ⌝ }
 {
     finding_reply(finder::find(table, order))
+}
+
+// Reads a book: see include/telhavina.h.
+#[no_mangle]
+pub extern "C" fn telhavina_book_read(book: &[u8], words: &mut [u32]) -> intake::Reply
+    ensures { λ r. ⌜ BookRead (now (book .entry)) (now (words .entry)) (now (words .exit)) (said r) ⌝ }
+{
+    reading_reply(book::read(book, words))
+}
+
+// Writes a book: see include/telhavina.h.
+#[no_mangle]
+pub extern "C" fn telhavina_book_write(words: &[u32], book: &mut [u8]) -> intake::Reply
+    ensures { λ r. ⌜ BookWritten (now (words .entry)) (now (book .entry)) (now (book .exit)) (said r) ⌝ }
+{
+    writing_reply(book::write(words, book))
 }

@@ -1,4 +1,4 @@
-//! The command line: which question is asked, about which file.
+//! The command line: what is asked for, and of which file.
 
 use std::ffi::OsString;
 use std::path::PathBuf;
@@ -21,6 +21,16 @@ pub enum Command {
     Find {
         /// The file.
         file: PathBuf,
+    },
+    /// Make a book of the CSV in this file.
+    Pack {
+        /// The file.
+        file: PathBuf,
+    },
+    /// Make a CSV of the book in this file.
+    Unpack {
+        /// The file; if there is none, the standard input.
+        file: Option<PathBuf>,
     },
 }
 
@@ -93,13 +103,23 @@ fn command(words: Words) -> Result<Command, String> {
     match name.as_deref() {
         Some("judge") => judge(plain),
         Some("find") => find(plain),
+        Some("pack") => without_json(pack(plain)?, words.json, "pack", "a book"),
+        Some("unpack") => without_json(unpack(plain)?, words.json, "unpack", "a CSV"),
         Some(other) => Err(format!("there is no command {}", Quoted(other))),
-        None => Err("a command is missing: judge, find or --help".to_string()),
+        None => Err("a command is missing: judge, find, pack, unpack or --help".to_string()),
+    }
+}
+
+/// The command, unless JSON is asked for: its answer is this kind of file, and nothing else.
+fn without_json(command: Command, json: bool, name: &str, kind: &str) -> Result<Command, String> {
+    match json {
+        true => Err(format!("{name} takes no --json: its answer is {kind}")),
+        false => Ok(command),
     }
 }
 
 fn judge(mut plain: impl Iterator<Item = OsString>) -> Result<Command, String> {
-    let file = file(plain.next(), "judge")?;
+    let file = file(plain.next(), "judge TABLE.csv")?;
     let order = match plain.next().map(OsString::into_string) {
         None => None,
         Some(Ok(order)) => Some(order),
@@ -116,19 +136,40 @@ fn judge(mut plain: impl Iterator<Item = OsString>) -> Result<Command, String> {
 }
 
 fn find(mut plain: impl Iterator<Item = OsString>) -> Result<Command, String> {
-    let file = file(plain.next(), "find")?;
-    match plain.next() {
-        None => Ok(Command::Find { file }),
-        Some(more) => Err(format!(
-            "find takes one file and nothing else, and {} is one argument too many",
-            Quoted(&more.to_string_lossy())
-        )),
+    let file = file(plain.next(), "find TABLE.csv")?;
+    no_more(plain, "find")?;
+    Ok(Command::Find { file })
+}
+
+fn pack(mut plain: impl Iterator<Item = OsString>) -> Result<Command, String> {
+    let file = file(plain.next(), "pack TABLE.csv > BOOK")?;
+    no_more(plain, "pack")?;
+    Ok(Command::Pack { file })
+}
+
+fn unpack(mut plain: impl Iterator<Item = OsString>) -> Result<Command, String> {
+    let file = match plain.next() {
+        None => None,
+        Some(dash) if dash == "-" => None,
+        arg => Some(file(arg, "unpack BOOK > TABLE.csv")?),
+    };
+    no_more(plain, "unpack")?;
+    Ok(Command::Unpack { file })
+}
+
+fn file(arg: Option<OsString>, expected: &str) -> Result<PathBuf, String> {
+    match arg {
+        Some(file) if !file.is_empty() => Ok(PathBuf::from(file)),
+        _ => Err(format!("the file is missing: telhavina {expected}")),
     }
 }
 
-fn file(arg: Option<OsString>, command: &str) -> Result<PathBuf, String> {
-    match arg {
-        Some(file) if !file.is_empty() => Ok(PathBuf::from(file)),
-        _ => Err(format!("the file is missing: telhavina {command} TABLE.csv")),
+fn no_more(mut plain: impl Iterator<Item = OsString>, command: &str) -> Result<(), String> {
+    match plain.next() {
+        None => Ok(()),
+        Some(more) => Err(format!(
+            "{command} takes one file and nothing else, and {} is one argument too many",
+            Quoted(&more.to_string_lossy())
+        )),
     }
 }

@@ -23,6 +23,13 @@ pub enum Length {
     Std(u32),
     /// So many bytes, with a 29-bit identifier.
     Ext(u32),
+    /// What only a book can hold: no cell tells such a form, and the library refuses it.
+    Other {
+        /// The form.
+        form: u32,
+        /// The size.
+        size: u32,
+    },
 }
 
 /// The queue that this cell tells.

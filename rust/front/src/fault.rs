@@ -86,6 +86,11 @@ impl Fault {
     pub fn in_column(self, column: Column) -> Fault {
         Fault { column: Some(column), ..self }
     }
+
+    /// The same in this field of a row of a book, which has no line to name: the words say where.
+    pub fn in_row(self, row: usize, field: Column) -> Fault {
+        Fault { message: format!("row {row}, {field}: {}", self.message), ..self }
+    }
 }
 
 impl fmt::Display for Fault {

@@ -4,6 +4,8 @@
 pub const USAGE: &str = "\
 usage: telhavina judge TABLE.csv [ORDER] [--json]
        telhavina find TABLE.csv [--json]
+       telhavina pack TABLE.csv > BOOK
+       telhavina unpack [BOOK] > TABLE.csv
        telhavina --help
 ";
 
@@ -14,12 +16,15 @@ telhavina: is every message of this CAN bus sent within its time?
 usage
   telhavina judge TABLE.csv [ORDER] [--json]   judge an order of priority
   telhavina find TABLE.csv [--json]            find an order of priority that passes
+  telhavina pack TABLE.csv > BOOK              make a book of a table
+  telhavina unpack [BOOK] > TABLE.csv          make a table of a book
   telhavina --help                             show this text
+  To judge and find, a book can stand in the place of TABLE.csv.
 
 ORDER
   The messages from the highest priority to the lowest, in one argument with commas between them:
   names, or row numbers (rows count from 0 in the order of the file). The messages of one FIFO
-  stand together. Without ORDER, the order is that of the file: first line highest.
+  stand together. Without ORDER, the order is that of the file: first line, or row, highest.
 
 the file
   # bitrate 250000
@@ -41,6 +46,16 @@ the file
   A file has 1 to 64 messages. Blank lines and lines that start with # are skipped. Blanks around
   a cell do not matter. Capital or small letters do not matter in the header, in the queue and in
   the words std, ext and bits; in names they do.
+
+the book
+  The same table as yards send it, in a binary file. It has no names and no bit rate: its messages
+  are called row0, row1 and so on, and its times are whole bit times. A file is taken for a book if
+  one of its first two bytes is zero: in every book one is, and in no text.
+  pack      Writes the book of a table to standard output, but not to a screen. Times are rounded
+            as above. Rows that judge would refuse are written as well.
+  unpack    Writes the table of a book to standard output. Without BOOK, or with - in its place,
+            the book comes from standard input. Packed, the table gives the same book again. If a
+            length is neither bits, std nor ext, a table cannot hold it, and nothing is written.
 
 the answer
   A table, highest priority first, then the verdict.
@@ -65,13 +80,16 @@ the JSON object
   Each of messages, highest priority first, has name, row, line, queue, late, figure, allowed, slack
   and, with a bit rate, figure_ms, allowed_ms, slack_ms. A late one has null for figure and slack.
   Without a bit rate, bitrate is null. Where there is no line or no column to name, the key is
-  left out. Places and rows count from 0, lines from 1.
+  left out, as always for a book: there, the text of message tells the row and the field. Places
+  and rows count from 0, lines from 1. To pack and unpack, there is no --json.
 
 exit status
-  0  passed, or found
+  0  passed, or found; packed, or unpacked
   1  late, or no order
   2  refused, or not readable: the reason is on standard error (with --json, in the object)
 
-example
+examples
+  telhavina pack examples/table_a.csv > table_a.book
+  telhavina find table_a.book
   telhavina judge examples/table_a.csv C,F,A,B
 ";

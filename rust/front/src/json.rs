@@ -73,7 +73,7 @@ fn message(table: &Table, judged: &Judged) -> String {
     let object = Object::new()
         .text("name", table.name(judged.row))
         .put("row", judged.row)
-        .known("line", message.map(|message| message.line))
+        .known("line", message.and_then(|message| message.line))
         .text("queue", &message.map(|message| message.queue.to_string()).unwrap_or_default())
         .put("late", judged.figure.is_none())
         .or_null("figure", judged.figure)

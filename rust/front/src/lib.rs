@@ -1,14 +1,19 @@
 //! The command line of the library: a licensing officer keeps the table of licences in a file, and
-//! asks whether an order of it passes, or for an order that does.
+//! asks whether an order of it passes, or for an order that does; and turns a table into a book for
+//! others, or a book from others into a table.
 //!
 //! Here a file is read, put into the words of document 01, handed to [`telhavina`], and the reply is
 //! shown. All that is decided about a table is decided there, by the proved library; only what
-//! cannot be put into words of 32 bits is turned down here.
+//! cannot be put into words of 32 bits is turned down here, or a word that cannot be put into a CSV.
 
 pub mod answer;
 pub mod args;
+pub mod book;
+mod book_refusal;
 mod cells;
 mod columns;
+pub mod convert;
+pub mod csv;
 pub mod fault;
 mod help;
 pub mod json;
@@ -24,6 +29,7 @@ mod shown;
 pub mod table;
 
 use std::ffi::OsString;
+use std::io::Read;
 use std::path::Path;
 
 use answer::Answer;
@@ -33,35 +39,67 @@ use report::Report;
 use shown::Shown;
 use table::Table;
 
-/// The exit status of an order that passes, judged or found.
+/// The exit status of an order that passes, judged or found, and of a file that was turned into
+/// another.
 pub const GOOD: u8 = 0;
 /// The exit status of an answer that is no: late, or no order.
 pub const NOT_GOOD: u8 = 1;
 /// The exit status where there is no answer: refused, or not readable.
 pub const REFUSED: u8 = 2;
 
+/// What stands for the name of a file that comes in without one.
+const STANDARD_INPUT: &str = "standard input";
+
+/// What the program is connected to.
+pub struct Streams<'a> {
+    /// The standard input.
+    pub input: &'a mut dyn Read,
+    /// Whether a person would have to type it.
+    pub input_is_terminal: bool,
+    /// Whether the standard output is shown to a person as it comes.
+    pub output_is_terminal: bool,
+}
+
 /// What the program says, and the status it ends with.
 #[derive(Debug, Clone, PartialEq, Eq)]
 pub struct Said {
-    /// For the standard output.
-    pub out: String,
+    /// For the standard output: text, or a book.
+    pub out: Vec<u8>,
     /// For the standard error.
     pub err: String,
     /// The exit status.
     pub status: u8,
 }
 
+impl Said {
+    /// This answer, and nothing on the standard error.
+    fn answer(out: impl Into<Vec<u8>>, status: u8) -> Said {
+        Said { out: out.into(), err: String::new(), status }
+    }
+
+    /// No answer, and the reason on the standard error.
+    fn complaint(err: String) -> Said {
+        Said { out: Vec::new(), err, status: REFUSED }
+    }
+}
+
 /// Does what these arguments ask for; the name of the program is not among them.
-pub fn run(args: Vec<OsString>) -> Said {
-    match args::read(args) {
-        Ok(Request { command: Command::Help, .. }) => {
-            Said { out: help::HELP.to_string(), err: String::new(), status: GOOD }
-        }
-        Ok(Request { command: Command::Judge { file, order }, json }) => {
+pub fn run(args: Vec<OsString>, streams: &mut Streams) -> Said {
+    let Request { command, json } = match args::read(args) {
+        Ok(request) => request,
+        Err(usage) => return misused(&usage),
+    };
+    match command {
+        Command::Help => Said::answer(help::HELP, GOOD),
+        Command::Judge { file, order } => {
             reply(&file, json, |table| answer::judge(table, order.as_deref()))
         }
-        Ok(Request { command: Command::Find { file }, json }) => reply(&file, json, answer::find),
-        Err(usage) => misused(&usage),
+        Command::Find { file } => reply(&file, json, answer::find),
+        Command::Pack { file } => converted(Some(&file), convert::pack(&file, streams)),
+        Command::Unpack { file } => {
+            let file = file.as_deref();
+            converted(file, convert::unpack(file, streams))
+        }
     }
 }
 
@@ -69,7 +107,7 @@ pub fn run(args: Vec<OsString>) -> Said {
 fn reply(file: &Path, json: bool, ask: impl FnOnce(&Table) -> Result<Answer, Fault>) -> Said {
     let name = file.to_string_lossy();
     let answered = load::load(file).and_then(|bytes| {
-        let table = table::read(&bytes)?;
+        let table = table::of_file(&bytes)?;
         let answer = ask(&table)?;
         Ok((table, answer))
     });
@@ -80,12 +118,19 @@ fn reply(file: &Path, json: bool, ask: impl FnOnce(&Table) -> Result<Answer, Fau
                 true => json::answer(&name, &table, &answer),
                 false => Report { file: &name, table: &table, answer: &answer }.to_string(),
             };
-            Said { out, err: String::new(), status }
+            Said::answer(out, status)
         }
-        Err(fault) if json => {
-            Said { out: json::fault(&name, &fault), err: String::new(), status: REFUSED }
-        }
-        Err(fault) => Said { out: String::new(), err: complaint(&name, &fault), status: REFUSED },
+        Err(fault) if json => Said::answer(json::fault(&name, &fault), REFUSED),
+        Err(fault) => Said::complaint(complaint(&name, &fault)),
+    }
+}
+
+/// What is said where this file, or the standard input, was to be turned into another file.
+fn converted(file: Option<&Path>, made: Result<Vec<u8>, Fault>) -> Said {
+    let name = file.map_or(STANDARD_INPUT.into(), Path::to_string_lossy);
+    match made {
+        Ok(made) => Said::answer(made, GOOD),
+        Err(fault) => Said::complaint(complaint(&name, &fault)),
     }
 }
 
@@ -97,9 +142,8 @@ fn complaint(file: &str, fault: &Fault) -> String {
 
 /// A program that asked for JSON finds an object as ever, and no more; a person finds the usage.
 fn misused(usage: &Usage) -> Said {
-    let (out, err) = match usage.json {
-        true => (json::misused(&usage.message), String::new()),
-        false => (String::new(), format!("telhavina: {}\n{}", usage.message, help::USAGE)),
-    };
-    Said { out, err, status: REFUSED }
+    match usage.json {
+        true => Said::answer(json::misused(&usage.message), REFUSED),
+        false => Said::complaint(format!("telhavina: {}\n{}", usage.message, help::USAGE)),
+    }
 }

@@ -2,13 +2,18 @@
 //! status.
 
 use std::env;
-use std::io::{self, ErrorKind, Write};
+use std::io::{self, ErrorKind, IsTerminal, Write};
 use std::process::ExitCode;
 
-use front::{run, REFUSED};
+use front::{run, Streams, REFUSED};
 
 fn main() -> ExitCode {
-    let said = run(env::args_os().skip(1).collect());
+    let mut streams = Streams {
+        input: &mut io::stdin(),
+        input_is_terminal: io::stdin().is_terminal(),
+        output_is_terminal: io::stdout().is_terminal(),
+    };
+    let said = run(env::args_os().skip(1).collect(), &mut streams);
     complain(&said.err);
     match answer(&said.out) {
         // A reader that has seen enough and left is no trouble of ours: the verdict stands.
@@ -20,9 +25,9 @@ fn main() -> ExitCode {
     }
 }
 
-fn answer(text: &str) -> io::Result<()> {
+fn answer(bytes: &[u8]) -> io::Result<()> {
     let mut out = io::stdout().lock();
-    out.write_all(text.as_bytes())?;
+    out.write_all(bytes)?;
     out.flush()
 }
 

@@ -11,9 +11,8 @@ use crate::millis::Rounding;
 use crate::order::Entry;
 use crate::rate::Rate;
 use crate::shown::{count, Quoted};
-use crate::table::{Length, Message, Table};
+use crate::table::{Length, Message, Table, MOST_ROWS};
 
-const MOST_ROWS: usize = 64;
 const LONGEST_PERIOD: u32 = 1_000_000;
 /// How many names or entries of one kind are listed.
 const LISTED: usize = 12;
@@ -40,10 +39,8 @@ fn too_many(table: &Table) -> Fault {
     let rows = table.messages.len();
     let fault =
         Fault::new(format!("the file has {rows} messages, and at most {MOST_ROWS} are allowed"));
-    match table.messages.get(MOST_ROWS) {
-        Some(message) => fault.on_line(message.line),
-        None => fault,
-    }
+    let line = table.messages.get(MOST_ROWS).and_then(|message| message.line);
+    Fault { line, ..fault }
 }
 
 fn bad_row(message: &Message, row: usize, field: usize, rate: Option<Rate>) -> Fault {
@@ -62,15 +59,21 @@ fn bad_row(message: &Message, row: usize, field: usize, rate: Option<Rate>) -> F
         Column::Deadline => came_to(message.deadline, rate, &allowed_deadline(message)),
         Column::Jitter => came_to(message.jitter, rate, &allowed_jitter(message)),
     };
-    Fault::new(format!("{value} is not allowed for {name} (row {row}): {expected}"))
-        .on_line(message.line)
-        .in_column(column)
+    match message.line {
+        Some(line) => {
+            Fault::new(format!("{value} is not allowed for {name} (row {row}): {expected}"))
+                .on_line(line)
+                .in_column(column)
+        }
+        None => Fault::new(format!("{value} is not allowed: {expected}")).in_row(row, column),
+    }
 }
 
 fn allowed_length(length: Length) -> &'static str {
     match length {
         Length::Bits(_) => "a length in bit times is 1 to 4096",
         Length::Std(_) | Length::Ext(_) => "a frame has 0 to 8 bytes",
+        Length::Other { .. } => Length::FORMS,
     }
 }
 
@@ -192,12 +195,19 @@ fn split_in_file(table: &Table, row: usize) -> Option<Fault> {
     let queue = message.queue;
     let last_row = table.messages.iter().take(row).rposition(|earlier| earlier.queue == queue)?;
     let last = table.messages.get(last_row)?;
+    // In a CSV, a line can be moved.
+    let way_out = match last.line {
+        Some(line) => format!(" (line {line}): move it there, or give"),
+        None => ": give".to_string(),
+    };
     let fault = Fault::new(format!(
-        "in the order of the file, {} comes back to {queue}, which was left after {} (line {}): \
-         move it there, or give an ORDER that keeps the messages of a FIFO together",
+        "in the order of the file, {} comes back to {queue}, which was left after {}{way_out} an \
+         ORDER that keeps the messages of a FIFO together",
         Quoted(&message.name),
         Quoted(&last.name),
-        last.line
     ));
-    Some(fault.on_line(message.line).in_column(Column::Queue))
+    match message.line {
+        Some(line) => Some(fault.on_line(line).in_column(Column::Queue)),
+        None => Some(fault),
+    }
 }

@@ -32,7 +32,7 @@ struct Rows {
     messages: Vec<Message>,
     /// The line of each name.
     names: BTreeMap<String, usize>,
-    /// The last line of all.
+    /// The last line taken.
     last: usize,
 }
 
@@ -57,7 +57,7 @@ impl Rows {
 
     /// Takes this message, if its name is new.
     fn put(&mut self, message: Message) -> Result<(), Fault> {
-        if let Some(other) = self.names.insert(message.name.clone(), message.line) {
+        if let Some(other) = self.names.insert(message.name.clone(), self.last) {
             return Err(Fault::new(format!(
                 "{} is already the name of the message on line {other}: expected a name of its own",
                 Quoted(&message.name)
@@ -115,7 +115,7 @@ fn message(line: Line, rate: Option<Rate>) -> Result<Message, Fault> {
     let [name_cell, queue_cell, length_cell, period, deadline, jitter] = cells;
     Ok(Message {
         name: name(name_cell)?,
-        line: line.number,
+        line: Some(line.number),
         queue: queue(queue_cell)?,
         length: length(length_cell)?,
         period: time(period, rate, Column::Period)?,
@@ -174,7 +174,7 @@ mod tests {
              # a note\n  Main engine ,  Fifo  2 , Std 4 , 10 , 9 , 8 ",
         );
         let message = &table.messages[0];
-        assert_eq!((message.name.as_str(), message.line), ("Main engine", 6));
+        assert_eq!((message.name.as_str(), message.line), ("Main engine", Some(6)));
         assert_eq!((message.queue, message.length), (Queue::Fifo(2), Length::Std(4)));
         assert_eq!(table.words(), [2, 1, 4, 10, 9, 8]);
         assert_eq!(message.written(Column::Length), "Std 4");

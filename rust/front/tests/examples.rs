@@ -1,15 +1,16 @@
 //! The examples, and what the program says of each of them: word for word what is stored in
-//! examples/expected. There a name is the example, the command and, with a dash, the order.
+//! examples/expected. There a name is the example, the command and, with a dash, the order; an
+//! example without an ending is a CSV.
 
 mod common;
 
 use std::fs;
 
 use common::json::{self, Json};
-use common::{root, run};
+use common::{root, run, run_here};
 
 /// Each stored answer: the example, the command, the order if there is one, and the exit status.
-const ANSWERS: [(&str, &str, Option<&str>, i32); 13] = [
+const ANSWERS: [(&str, &str, Option<&str>, i32); 18] = [
     ("table_a", "judge", None, 1),
     ("table_a", "judge", Some("3,1,0,2"), 0),
     ("table_a", "find", None, 0),
@@ -23,11 +24,22 @@ const ANSWERS: [(&str, &str, Option<&str>, i32); 13] = [
     ("no_order", "find", None, 1),
     ("deck", "judge", None, 1),
     ("deck", "find", None, 0),
+    ("table_a.book", "judge", None, 1),
+    ("table_a.book", "judge", Some("3,1,0,2"), 0),
+    ("table_a.book", "find", None, 0),
+    ("damaged.book", "judge", None, 2),
+    ("damaged.book", "find", None, 2),
 ];
+
+/// The file of this example.
+fn path(example: &str) -> String {
+    let ending = if example.contains('.') { "" } else { ".csv" };
+    format!("examples/{example}{ending}")
+}
 
 /// The arguments that ask for this answer, and where it is stored.
 fn question(example: &str, command: &str, order: Option<&str>) -> (Vec<String>, String) {
-    let mut args = vec![command.to_string(), format!("examples/{example}.csv")];
+    let mut args = vec![command.to_string(), path(example)];
     args.extend(order.map(str::to_string));
     let dash = order.map(|order| format!("-{}", order.replace(',', "_"))).unwrap_or_default();
     (args, format!("{example}.{command}{dash}"))
@@ -79,6 +91,8 @@ fn as_in_document_01() {
     let b = rows_and_figures("table_a.find");
     assert_eq!(b, all(&[(3, 200), (1, 325), (2, 450), (0, 575)]));
     assert_eq!(json::read(&stored("table_a.find.json")).get("tried").whole(), Some(5));
+    assert_eq!(rows_and_figures("table_a.book.judge-3_1_0_2"), a);
+    assert_eq!(rows_and_figures("table_a.book.find"), b);
     let c = rows_and_figures("fifo_mix.judge-2_0_1");
     assert_eq!(c, all(&[(2, 180), (0, 340), (1, 340)]));
     assert_eq!(rows_and_figures("fifo_mix.judge"), all(&[(0, 260), (1, 260), (2, 320)]));
@@ -122,13 +136,25 @@ fn both_say_the_same() {
 // 'An order line that can be pasted as ORDER': it passes, with the same table.
 #[test]
 fn the_order_found_can_be_judged() {
-    for example in ["table_a", "fifo_mix", "deck"] {
+    for example in ["table_a", "fifo_mix", "deck", "table_a.book"] {
         let found = json::read(&stored(&format!("{example}.find.json")));
         let order = found.get("order").text();
         let line = stored(&format!("{example}.find.txt"));
         assert!(line.contains(&format!("order {order} (")) || line.contains(&format!("'{order}'")));
-        let judged = run(&["judge", &format!("examples/{example}.csv"), order, "--json"]);
+        let judged = run(&["judge", &path(example), order, "--json"]);
         assert_eq!(judged.status, Some(0), "{judged:?}");
         assert_eq!(json::read(&judged.out).get("messages"), found.get("messages"));
     }
+}
+
+// The book is that of the table, and its damaged copy differs in where row 2 is said to start.
+#[test]
+fn the_book_of_table_a() {
+    let book = fs::read(root().join("examples/table_a.book")).expect("the example");
+    let packed = run_here(&["pack", &root().join("examples/table_a.csv").to_string_lossy()], b"");
+    assert_eq!((packed.out, packed.err.as_str(), packed.status), (book.clone(), "", 0));
+    let damaged = fs::read(root().join("examples/damaged.book")).expect("the example");
+    let places = book.iter().zip(&damaged).zip(0..).filter(|((a, b), _)| a != b);
+    assert_eq!(places.map(|(_, place)| place).collect::<Vec<_>>(), [2 + 4 * 2 + 3]);
+    assert_eq!(book.len(), damaged.len());
 }

@@ -3,11 +3,11 @@
 
 mod common;
 
-use std::collections::BTreeMap;
 use std::panic::{catch_unwind, AssertUnwindSafe};
 
 use common::json::{self, Json};
 use common::made_up::{csv, damage};
+use common::tally::Tally;
 use common::HEADER;
 use front::answer::{self, Answer, Verdict};
 use front::fault::Fault;
@@ -18,9 +18,6 @@ use tables::Prng;
 use telhavina::{Finding, Judgement, Refusal};
 
 const FILES: u64 = 6_000;
-
-/// How often each kind of answer came up.
-type Tally = BTreeMap<String, u32>;
 
 /// The answer on these bytes, to the question of an order or of that of the file.
 fn ask(bytes: &[u8], find: bool) -> Result<(Table, Answer), Fault> {
@@ -68,8 +65,8 @@ fn check_refused(bytes: &[u8], fault: &Fault, find: bool) {
     };
     assert_eq!(fault.number, Some(refusal.number()));
     if let Refusal::BadRow { row, .. } = refusal {
-        assert_eq!(fault.line, Some(table.messages[row].line));
-        assert!(fault.column.is_some());
+        assert_eq!(fault.line, table.messages[row].line);
+        assert!(fault.line.is_some() && fault.column.is_some());
     }
 }
 
@@ -120,16 +117,9 @@ fn check(bytes: &[u8], find: bool) -> String {
     }
 }
 
-fn print(what: &str, tally: &Tally) {
-    println!("{what}:");
-    for (kind, times) in tally {
-        println!("  {kind:11} {times:6}");
-    }
-}
-
 #[test]
 fn damaged_files() {
-    let mut tally = Tally::new();
+    let mut tally = Tally::default();
     for seed in 0..FILES {
         let case = tables::case(seed);
         let mut prng = Prng::new(seed);
@@ -141,18 +131,17 @@ fn damaged_files() {
             let Ok(kind) = checked else {
                 panic!("seed {seed}, find {find}:\n{}", String::from_utf8_lossy(&bytes))
             };
-            *tally.entry(kind).or_default() += 1;
+            tally.count(kind);
         }
     }
-    print("damaged files", &tally);
     let kinds = ["Passed", "Late", "Found", "NoOrder", "refusal 3", "refusal 7", "unreadable"];
-    assert!(kinds.iter().all(|kind| tally.get(*kind) >= Some(&30)), "{tally:?}");
+    tally.expect("damaged files", &kinds);
 }
 
 // Whatever words can be written in a file, they are those that are read from it, and the order too.
 #[test]
 fn the_words_come_through() {
-    let mut tally = Tally::new();
+    let mut tally = Tally::default();
     for seed in 0..FILES {
         let case = tables::case(seed);
         let mut prng = Prng::new(seed);
@@ -178,11 +167,10 @@ fn the_words_come_through() {
                 format!("good {}", judgement == Judgement::Passed)
             }
         };
-        *tally.entry(kind).or_default() += 1;
+        tally.count(kind);
     }
-    print("files that hold a table", &tally);
     let kinds = ["good true", "good false", "refusal 2", "refusal 3", "refusal 5", "refusal 6"];
-    assert!(kinds.iter().all(|kind| tally.get(*kind) >= Some(&30)), "{tally:?}");
+    tally.expect("files that hold a table", &kinds);
 }
 
 /// An entry for this row: its number or, if there is such a row, its name.
@@ -204,7 +192,7 @@ fn damaged_orders() {
         .as_bytes(),
     )
     .expect("a table");
-    let mut tally = Tally::new();
+    let mut tally = Tally::default();
     for seed in 0..FILES {
         let mut prng = Prng::new(seed);
         let mut entries = ["A", "01", "02", "3"];
@@ -226,9 +214,8 @@ fn damaged_orders() {
                 "unreadable".to_string()
             }
         };
-        *tally.entry(kind).or_default() += 1;
+        tally.count(kind);
     }
-    print("orders", &tally);
     let kinds = ["good", "refusal 5", "refusal 6", "refusal 7", "unreadable"];
-    assert!(kinds.iter().all(|kind| tally.get(*kind) >= Some(&30)), "{tally:?}");
+    tally.expect("orders", &kinds);
 }

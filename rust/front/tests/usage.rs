@@ -16,7 +16,8 @@ fn help() {
     {
         let said = run(args);
         assert_eq!((said.err.as_str(), said.status), ("", Some(0)), "{args:?}");
-        for part in ["usage", "ORDER", "# bitrate", HEADER, "figure", "exit status", "example"] {
+        let parts = ["usage", "ORDER", "# bitrate", HEADER, "figure", "exit status", "example"];
+        for part in parts.iter().chain(&["pack TABLE.csv > BOOK", "unpack [BOOK]", "the book"]) {
             assert!(said.out.contains(part), "{part}");
         }
         assert!(said.out.lines().all(|line| line.chars().count() <= 100));
@@ -99,12 +100,18 @@ fn case_and_blanks_do_not_matter() {
 
 #[test]
 fn misuse() {
-    let cases: [(&[&str], &str); 11] = [
+    let cases: [(&[&str], &str); 17] = [
         (&[], "a command is missing"),
         (&["jugde", TABLE_A], "no command `jugde`"),
         (&["judge"], "the file is missing"),
         (&["find"], "the file is missing"),
         (&["judge", ""], "the file is missing"),
+        (&["pack"], "the file is missing: telhavina pack TABLE.csv > BOOK"),
+        (&["unpack", ""], "the file is missing: telhavina unpack BOOK > TABLE.csv"),
+        (&["pack", TABLE_A, "a.book"], "pack takes one file and nothing else, and `a.book`"),
+        (&["unpack", "a.book", "-"], "unpack takes one file and nothing else, and `-`"),
+        (&["pack", TABLE_A, "-o"], "no option `-o`"),
+        (&["unpack", "-", "--to=a.csv"], "no option `--to=a.csv`"),
         (&["find", TABLE_A, "C,F,B,A"], "find takes one file"),
         (&["judge", TABLE_A, "C,F,", "B,A"], "quotes"),
         (&["judge", TABLE_A, "--jsn"], "no option `--jsn`"),
@@ -125,6 +132,21 @@ fn misuse() {
         let object = json::read(&said.out);
         assert_eq!(object.get("verdict").text(), "usage");
         assert!(object.get("message").text().contains(part), "{said:?}");
+    }
+}
+
+// Where the answer is a file, a program that asks for JSON is told so, also in JSON.
+#[test]
+fn no_json_for_files() {
+    for (args, part) in [
+        (&["pack", TABLE_A, "--json"], "pack takes no --json: its answer is a book"),
+        (&["unpack", "--json", TABLE_A], "unpack takes no --json: its answer is a CSV"),
+    ] {
+        let said = run(args);
+        assert_eq!((said.err.as_str(), said.status), ("", Some(2)), "{args:?}");
+        let object = json::read(&said.out);
+        assert_eq!(object.keys(), ["verdict", "message"]);
+        assert_eq!((object.get("verdict").text(), object.get("message").text()), ("usage", part));
     }
 }
 
@@ -229,9 +251,12 @@ fn a_name_that_is_the_number_of_another() {
 // A reader that left before the answer came: no panic, and the verdict's own status.
 #[test]
 fn a_closed_output() {
-    for (args, status) in
-        [(&["find", "examples/deck.csv"], 0), (&["find", "examples/no_order.csv"], 1)]
-    {
+    for (args, status) in [
+        (&["find", "examples/deck.csv"], 0),
+        (&["find", "examples/no_order.csv"], 1),
+        (&["pack", "examples/deck.csv"], 0),
+        (&["unpack", "examples/table_a.book"], 0),
+    ] {
         let (reader, writer) = io::pipe().expect("a pipe");
         drop(reader);
         let output = command().args(args).stdout(writer).stderr(Stdio::piped()).output();
@@ -253,9 +278,11 @@ fn a_closed_error_output() {
 #[test]
 #[cfg(target_os = "linux")]
 fn a_full_disk() {
-    let full = std::fs::File::options().write(true).open("/dev/full").expect("the full device");
-    let output = command().args(["find", TABLE_A]).stdout(full).stderr(Stdio::piped()).output();
-    let said = said(output.expect("the program runs"));
-    assert!(said.err.contains("could not be written"), "{said:?}");
-    assert_eq!(said.status, Some(2));
+    for args in [["find", TABLE_A], ["pack", TABLE_A], ["unpack", "examples/table_a.book"]] {
+        let full = std::fs::File::options().write(true).open("/dev/full").expect("the full device");
+        let output = command().args(args).stdout(full).stderr(Stdio::piped()).output();
+        let said = said(output.expect("the program runs"));
+        assert!(said.err.contains("could not be written"), "{said:?}");
+        assert_eq!(said.status, Some(2));
+    }
 }

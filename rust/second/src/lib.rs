@@ -1,13 +1,16 @@
-//! The second program: it judges priority orders and finds them, and is written from document 01
-//! alone.
+//! The second program: it judges priority orders and finds them, and reads and writes books; it is
+//! written from document 01 and request L1 alone.
 //!
 //! It is there to be compared with the proved library, in what it answers and in how long it
 //! takes, so it shares nothing with it: no code, no contract, not even a table of limits.
 
+mod book;
 mod find;
 mod order;
 mod row;
 mod sums;
+
+pub use book::{listing, read_book, write_book};
 
 use row::{Row, FIELDS};
 
@@ -23,9 +26,13 @@ pub enum Reply {
     Late(u32),
     /// There is an order that passes; carries how many bands were tried.
     Found(u32),
+    /// The book was read; carries how many rows it has.
+    BookRead(u32),
+    /// The book was written; carries how many bytes it has.
+    BookWritten(u32),
     /// 1: no words, or not a multiple of six.
     Ragged,
-    /// 2: more than 64 rows.
+    /// 2: more than 64 rows, or a book that says so.
     TooMany,
     /// 3: the lowest bad row, and its lowest bad field.
     BadRow {
@@ -34,7 +41,7 @@ pub enum Reply {
         /// The field, from 1.
         field: u32,
     },
-    /// 4: the lent list is shorter than the table.
+    /// 4: the lent list is shorter than the answer.
     NoRoom,
     /// 5: the order has not one entry for each row.
     OrderLength,
@@ -49,6 +56,36 @@ pub enum Reply {
         /// How many bands were tried, at all places together.
         tried: u32,
     },
+    /// 20: a book of under two bytes, or with a count of 0.
+    EmptyBook,
+    /// 21: a book whose length is not that of its count.
+    BookLength,
+    /// 22: the first row that does not start where the book says.
+    BookOffset(u32),
+}
+
+impl Reply {
+    /// Its number in the desk's list; an answer has 100 and more.
+    fn number(self) -> u32 {
+        match self {
+            Reply::Passed => 100,
+            Reply::Late(_) => 101,
+            Reply::Found(_) => 102,
+            Reply::BookRead(_) => 103,
+            Reply::BookWritten(_) => 104,
+            Reply::Ragged => 1,
+            Reply::TooMany => 2,
+            Reply::BadRow { .. } => 3,
+            Reply::NoRoom => 4,
+            Reply::OrderLength => 5,
+            Reply::OrderEntry(_) => 6,
+            Reply::SplitQueue(_) => 7,
+            Reply::NoOrder { .. } => 8,
+            Reply::EmptyBook => 20,
+            Reply::BookLength => 21,
+            Reply::BookOffset(_) => 22,
+        }
+    }
 }
 
 /// Judges `order` over `table`; the figure of row i goes to place i of `figures`, 0 if it is late.
@@ -92,16 +129,25 @@ fn read_table<'a>(
     room: usize,
     rows: &'a mut [Row; MAX_ROWS],
 ) -> Result<&'a [Row], Reply> {
-    let (words, rest) = table.as_chunks::<FIELDS>();
-    if words.is_empty() || !rest.is_empty() {
-        return Err(Reply::Ragged);
-    }
-    let rows = rows.get_mut(..words.len()).ok_or(Reply::TooMany)?;
+    let words = rows_of_words(table)?;
+    let rows = &mut rows[..words.len()];
     for (at, (row, words)) in rows.iter_mut().zip(words).enumerate() {
         *row = Row::read(words).map_err(|field| Reply::BadRow { row: number(at), field })?;
     }
     if room < rows.len() {
         return Err(Reply::NoRoom);
+    }
+    Ok(rows)
+}
+
+/// The words row by row, 1 to 64 rows, or refusal 1 or 2.
+fn rows_of_words(table: &[u32]) -> Result<&[[u32; FIELDS]], Reply> {
+    let (rows, rest) = table.as_chunks();
+    if rows.is_empty() || !rest.is_empty() {
+        return Err(Reply::Ragged);
+    }
+    if rows.len() > MAX_ROWS {
+        return Err(Reply::TooMany);
     }
     Ok(rows)
 }
@@ -128,8 +174,8 @@ fn place_rows<'a>(
     }
 }
 
-/// A row number, a place or a count of bands as it is carried; the greatest is a number of bands
-/// tried, at most 64 * 65 / 2.
+/// A row number, a place or a count as it is carried; the greatest is a number of bands tried, at
+/// most 64 * 65 / 2.
 fn number(at: usize) -> u32 {
     at as u32
 }

@@ -5,17 +5,17 @@ use crate::prng::Prng;
 use crate::{lent, Case};
 
 /// One way to damage a case.
-type Way = fn(&mut Case, &mut Prng);
+pub(crate) type Way<C> = fn(&mut C, &mut Prng);
 
 /// The ways that tell when an order is judged.
-pub(crate) const FOR_JUDGING: [Way; 7] =
+pub(crate) const FOR_JUDGING: [Way<Case>; 7] =
     [ragged, too_many, bad_rows, no_room, order_length, bad_entries, split_queue];
 /// The ways that tell when an order is looked for.
-pub(crate) const FOR_FINDING: [Way; 4] = [ragged, too_many, bad_rows, no_room];
+pub(crate) const FOR_FINDING: [Way<Case>; 4] = [ragged, too_many, bad_rows, no_room];
 
 /// Damages the case in one of these ways, or in several at once so that the order of the checks
 /// tells.
-pub(crate) fn damage(case: &mut Case, ways: &[Way], prng: &mut Prng) {
+pub(crate) fn damage<C>(case: &mut C, ways: &[Way<C>], prng: &mut Prng) {
     let times = if prng.chance(25) { prng.between(2, 4) } else { 1 };
     for _ in 0..times {
         let way = prng.pick(ways);
@@ -25,19 +25,12 @@ pub(crate) fn damage(case: &mut Case, ways: &[Way], prng: &mut Prng) {
 
 /// Refusal 1: no words, or not a multiple of six.
 fn ragged(case: &mut Case, prng: &mut Prng) {
-    let words = case.table.len();
-    match prng.below(8) {
-        0 => case.table.clear(),
-        1 => case.table.truncate(prng.below(6)),
-        2..=4 => case.table.truncate(words.saturating_sub(prng.below(5) + 1)),
-        _ => case.table.resize(words + prng.below(5) + 1, 1),
-    }
+    make_ragged(&mut case.table, prng);
 }
 
 /// Refusal 2: more than 64 rows, often just one more; all else is as if that many were allowed.
 fn too_many(case: &mut Case, prng: &mut Prng) {
-    let rows = if prng.chance(60) { 65 } else { prng.between(66, 100) };
-    case.table = case.table.iter().copied().cycle().take(6 * rows as usize).collect();
+    let rows = make_too_many(&mut case.table, prng);
     case.order = (0..rows).collect();
     case.figures = lent(rows as usize, prng);
 }
@@ -102,4 +95,22 @@ fn split_queue(case: &mut Case, prng: &mut Prng) {
             *queue = fifo;
         }
     }
+}
+
+/// Leaves no words, or not a multiple of six.
+pub(crate) fn make_ragged(words: &mut Vec<u32>, prng: &mut Prng) {
+    let whole = words.len();
+    match prng.below(8) {
+        0 => words.clear(),
+        1 => words.truncate(prng.below(6)),
+        2..=4 => words.truncate(whole.saturating_sub(prng.below(5) + 1)),
+        _ => words.resize(whole + prng.below(5) + 1, 1),
+    }
+}
+
+/// Repeats the words until they are more than 64 rows, and says how many these are.
+pub(crate) fn make_too_many(words: &mut Vec<u32>, prng: &mut Prng) -> u32 {
+    let rows = if prng.chance(60) { 65 } else { prng.between(66, 100) };
+    *words = words.iter().copied().cycle().take(6 * rows as usize).collect();
+    rows
 }

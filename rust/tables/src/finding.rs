@@ -67,7 +67,7 @@ impl fmt::Display for FindCase {
 
 /// A good table of any kind. A third has few rows of small numbers, a third is allowed just
 /// enough time or just too little.
-fn any(prng: &mut Prng) -> Vec<Row> {
+pub(crate) fn any(prng: &mut Prng) -> Vec<Row> {
     let style = Style::any(prng);
     let mut rows = match prng.below(100) {
         0..=32 => loaded(&style, 8, prng, |prng| Length::bits(1, 12, prng)),

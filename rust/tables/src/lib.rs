@@ -1,7 +1,9 @@
-//! A seeded maker of inputs for judging and for finding: tables and orders that are good, and ones
-//! that are damaged so that each refusal of document 01 comes up. It knows the limits of the
-//! fields; it judges nothing.
+//! A seeded maker of inputs for judging and for finding, and for reading and writing books: tables,
+//! orders and books that are good, and ones that are damaged so that each refusal of document 01
+//! and of request L1 comes up. It knows the limits of the fields; it judges nothing.
 
+mod book_damage;
+mod books;
 mod damage;
 mod extremes;
 mod fields;
@@ -15,6 +17,7 @@ mod style;
 
 use std::fmt;
 
+pub use books::{any_rows, book_of, lent_bytes, read_case, write_case, ReadCase, WriteCase};
 pub use fields::{boundary_rows, Row};
 pub use find_speed::find_families;
 pub use finding::{find_case, FindCase};

@@ -24,6 +24,18 @@ unsafe extern "C" {
         order: *mut u32,
         order_len: usize,
     ) -> Reply;
+    fn telhavina_book_read(
+        book: *const u8,
+        book_len: usize,
+        words: *mut u32,
+        words_len: usize,
+    ) -> Reply;
+    fn telhavina_book_write(
+        words: *const u32,
+        words_len: usize,
+        book: *mut u8,
+        book_len: usize,
+    ) -> Reply;
 }
 
 /// The library's reply on this table and order; `figures` is lent to it for the call.
@@ -50,15 +62,27 @@ pub(crate) fn find(table: &[u32], order: &mut [u32]) -> Reply {
     unsafe { telhavina_find(table.as_ptr(), table.len(), order.as_mut_ptr(), order.len()) }
 }
 
+/// The library's reply on this book; `words` is lent to it for the call.
+pub(crate) fn book_read(book: &[u8], words: &mut [u32]) -> Reply {
+    // SAFETY: as for judging. The words are writable and not shared with the book.
+    unsafe { telhavina_book_read(book.as_ptr(), book.len(), words.as_mut_ptr(), words.len()) }
+}
+
+/// The library's reply on these words; `book` is lent to it for the call.
+pub(crate) fn book_write(words: &[u32], book: &mut [u8]) -> Reply {
+    // SAFETY: as for judging. The bytes of `book` are writable and not shared with the words.
+    unsafe { telhavina_book_write(words.as_ptr(), words.len(), book.as_mut_ptr(), book.len()) }
+}
+
 #[cfg(test)]
 mod tests {
-    use super::{find, judge, Reply};
+    use super::{book_read, book_write, find, judge, Reply};
 
     /// How many numbers the reply with this number carries.
     fn carried(number: u32) -> u32 {
         match number {
             3 | 8 => 2,
-            6 | 7 | 101 | 102 => 1,
+            6 | 7 | 22 | 101..=104 => 1,
             _ => 0,
         }
     }
@@ -77,6 +101,14 @@ mod tests {
         }
         for mut case in (0..20_000).map(tables::find_case) {
             let reply = find(&case.table, &mut case.order);
+            assert!(rest_is_0(reply), "{case}");
+        }
+        for mut case in (0..20_000).map(tables::read_case) {
+            let reply = book_read(&case.book, &mut case.words);
+            assert!(rest_is_0(reply), "{case}");
+        }
+        for mut case in (0..20_000).map(tables::write_case) {
+            let reply = book_write(&case.words, &mut case.book);
             assert!(rest_is_0(reply), "{case}");
         }
     }

@@ -1,4 +1,5 @@
-//! Judges the priority order of a table of CAN messages, and finds one.
+//! Judges the priority order of a table of CAN messages, and finds one; reads and writes books of
+//! licences.
 //!
 //! Given which messages a bus has to carry and in which order of priority, [`judge`] says for
 //! each message a time from being queued within which it is wholly sent, the least that the
@@ -52,6 +53,26 @@
 //! assert_eq!(order, [2, 0, 1]);
 //! ```
 //!
+//! # Books
+//!
+//! Yards send tables as files. A book has its row count in two bytes, then the offset of each row
+//! from the file's start in four bytes, all high byte first; then the rows, six words each, four
+//! bytes a word, low byte first, and nothing else: 28 bytes a row and two.
+//!
+//! ```
+//! use telhavina::{read_book, write_book, Reading, Refusal, Writing};
+//!
+//! let table = [0, 0, 125, 1000, 750, 0];
+//! let mut book = [0; 30];
+//! assert_eq!(write_book(&table, &mut book), Writing::Written { bytes: 30 });
+//! assert_eq!(book[..14], [0, 1, 0, 0, 0, 6, 0, 0, 0, 0, 0, 0, 0, 0]);
+//!
+//! let mut words = [0; 6];
+//! assert_eq!(read_book(&book, &mut words), Reading::Read { rows: 1 });
+//! assert_eq!(words, table);
+//! assert_eq!(read_book(&book[..29], &mut words), Reading::Refused(Refusal::BookLength));
+//! ```
+//!
 //! # Building
 //!
 //! The build links `libtelhavina.a`, made by `rt staticlib telhavina` at the project's root and
@@ -66,6 +87,8 @@ pub use refusal::Refusal;
 const PASSED: u32 = 100;
 const LATE: u32 = 101;
 const FOUND: u32 = 102;
+const READ: u32 = 103;
+const WRITTEN: u32 = 104;
 
 /// What is said of an order.
 #[derive(Debug, Clone, Copy, PartialEq, Eq)]
@@ -96,6 +119,32 @@ pub enum Finding {
     Refused(Refusal),
 }
 
+/// What comes of reading a book.
+#[derive(Debug, Clone, Copy, PartialEq, Eq)]
+#[must_use]
+pub enum Reading {
+    /// The words stand in the first places of the lent list, six a row.
+    Read {
+        /// How many rows the book has.
+        rows: usize,
+    },
+    /// The bytes are no book, or the lent list has no room; no place was written.
+    Refused(Refusal),
+}
+
+/// What comes of writing a book.
+#[derive(Debug, Clone, Copy, PartialEq, Eq)]
+#[must_use]
+pub enum Writing {
+    /// The book stands in the first bytes of the lent list.
+    Written {
+        /// How many bytes the book has.
+        bytes: usize,
+    },
+    /// The words are no table, or the lent list has no room; no byte was written.
+    Refused(Refusal),
+}
+
 /// Judges `order` over `table` and writes the figure of row i to place i of `figures`.
 ///
 /// Any input is answered: nothing need be checked beforehand. The refusals are 1 to 7; where
@@ -122,5 +171,30 @@ pub fn find(table: &[u32], order: &mut [u32]) -> Finding {
     match reply.number {
         FOUND => Finding::Found { tried: reply.first as usize },
         number => Finding::Refused(Refusal::of(number, reply.first, reply.second)),
+    }
+}
+
+/// Reads a book and writes its words, six a row, to the first places of `words`.
+///
+/// Any bytes are answered: nothing need be checked beforehand. The refusals are 20, 2, 21, 22 and
+/// 4; where several are due, the first of them in this order is given. Whether the words are a
+/// table that can be judged is not asked here.
+pub fn read_book(book: &[u8], words: &mut [u32]) -> Reading {
+    let reply = ffi::book_read(book, words);
+    match reply.number {
+        READ => Reading::Read { rows: reply.first as usize },
+        number => Reading::Refused(Refusal::of(number, reply.first, reply.second)),
+    }
+}
+
+/// Writes these words, six a row, as a book to the first bytes of `book`: two bytes, and 28 a row.
+///
+/// Any words are answered, bad rows included: nothing need be checked beforehand. The refusals are
+/// 1, 2 and 4; where several are due, the one with the least number is given.
+pub fn write_book(words: &[u32], book: &mut [u8]) -> Writing {
+    let reply = ffi::book_write(words, book);
+    match reply.number {
+        WRITTEN => Writing::Written { bytes: reply.first as usize },
+        number => Writing::Refused(Refusal::of(number, reply.first, reply.second)),
     }
 }

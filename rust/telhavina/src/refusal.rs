@@ -5,12 +5,13 @@ use std::fmt;
 
 /// Why a question was refused. Rows and places count from 0, fields from 1.
 ///
-/// Judging can give 1 to 7, finding 1 to 4 and 8.
+/// Judging can give 1 to 7, finding 1 to 4 and 8, reading a book 20, 2, 21, 22 and 4, and writing
+/// one 1, 2 and 4.
 #[derive(Debug, Clone, Copy, PartialEq, Eq)]
 pub enum Refusal {
     /// 1: the table has no words, or not a multiple of six.
     Ragged,
-    /// 2: the table has more than 64 rows.
+    /// 2: the table has more than 64 rows, or the book says so.
     TooMany,
     /// 3: a word of the table is not allowed in its field.
     BadRow {
@@ -19,7 +20,7 @@ pub enum Refusal {
         /// Its lowest bad field, 1 to 6.
         field: usize,
     },
-    /// 4: the list lent for the figures, or for the order, is shorter than the table has rows.
+    /// 4: the list lent for the answer has no room for it.
     NoRoom,
     /// 5: the order has not as many entries as the table has rows.
     OrderLength,
@@ -41,6 +42,15 @@ pub enum Refusal {
         /// How many bands were tried, at all places together.
         tried: usize,
     },
+    /// 20: the book has fewer than two bytes, or says that it has no row.
+    EmptyBook,
+    /// 21: the book has not the length of a book with its number of rows.
+    BookLength,
+    /// 22: the book says that a row starts where it does not.
+    BookOffset {
+        /// The first such row.
+        row: usize,
+    },
 }
 
 impl Refusal {
@@ -56,6 +66,9 @@ impl Refusal {
             6 => Refusal::OrderEntry { place: first },
             7 => Refusal::SplitQueue { place: first },
             8 => Refusal::NoOrder { unplaced: first, tried: second },
+            20 => Refusal::EmptyBook,
+            21 => Refusal::BookLength,
+            22 => Refusal::BookOffset { row: first },
             _ => {
                 unreachable!("the library replied {number}, which is no refusal of the desk's list")
             }
@@ -73,6 +86,9 @@ impl Refusal {
             Refusal::OrderEntry { .. } => 6,
             Refusal::SplitQueue { .. } => 7,
             Refusal::NoOrder { .. } => 8,
+            Refusal::EmptyBook => 20,
+            Refusal::BookLength => 21,
+            Refusal::BookOffset { .. } => 22,
         }
     }
 }
@@ -82,12 +98,12 @@ impl fmt::Display for Refusal {
         write!(f, "Refusal {}: ", self.number())?;
         match self {
             Refusal::Ragged => write!(f, "the table has no words, or not a multiple of six."),
-            Refusal::TooMany => write!(f, "the table has more than 64 rows."),
+            Refusal::TooMany => write!(f, "the table, or the book, has more than 64 rows."),
             Refusal::BadRow { row, field } => {
                 write!(f, "field {field} of row {row} of the table is not allowed.")
             }
             Refusal::NoRoom => {
-                write!(f, "the list lent for the answer has no place for every row.")
+                write!(f, "the list lent for the answer has no room for it.")
             }
             Refusal::OrderLength => write!(f, "the order has not one entry for each row."),
             Refusal::OrderEntry { place } => {
@@ -101,6 +117,15 @@ impl fmt::Display for Refusal {
                 "no order of these messages passes (bands left without a place: {unplaced}, bands \
                  tried: {tried})."
             ),
+            Refusal::EmptyBook => {
+                write!(f, "the book has fewer than two bytes, or says that it has no row.")
+            }
+            Refusal::BookLength => {
+                write!(f, "the book has not the length of a book with its number of rows.")
+            }
+            Refusal::BookOffset { row } => {
+                write!(f, "the book says that row {row} starts where it does not.")
+            }
         }
     }
 }

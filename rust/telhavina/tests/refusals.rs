@@ -139,6 +139,11 @@ fn in_words() {
         "Refusal 8: no order of these messages passes (bands left without a place: 3, bands \
          tried: 17)."
     );
+    let offset = Refusal::BookOffset { row: 7 };
+    assert_eq!(
+        offset.to_string(),
+        "Refusal 22: the book says that row 7 starts where it does not."
+    );
     let all = [
         Refusal::Ragged,
         Refusal::TooMany,
@@ -148,8 +153,11 @@ fn in_words() {
         Refusal::OrderEntry { place: 0 },
         split,
         no_order,
+        Refusal::EmptyBook,
+        Refusal::BookLength,
+        offset,
     ];
-    for (refusal, number) in all.iter().zip(1..) {
+    for (refusal, number) in all.iter().zip((1..=8).chain(20..)) {
         assert_eq!(refusal.number(), number);
         let words = refusal.to_string();
         assert!(words.starts_with(&format!("Refusal {number}: ")) && words.ends_with('.'));

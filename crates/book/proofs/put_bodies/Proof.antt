@@ -9,8 +9,7 @@ use lib.Seq.{sets}
 use Rattle.sums.specs.Columns.{at}
 use Rattle.book.specs.Bytes.{low, each}
 use Rattle.book.specs.Book.{bodies}
-use Rattle.book.specs.ListLaws.{sets-length}
-use Rattle.book.proofs.Stores.{piece-stored}
+use Rattle.book.specs.ListLaws.{sets-length, each-stored}
 use Rattle.book.proofs.put_bodies.Statement.{statement}
 use Rattle.book.proofs.put_bodies.Tie as tie
 
@@ -41,7 +40,7 @@ loop-again : tie.Need-loop-again Inv-loop μ-loop
 loop-again c =
     let l = c .before .before .before .before .before .before .loop in
     let a = c .before .before .before .before .before .before .before .before .before .args in
-    (omega arith, ap (λ (b : List ℕ). sets b (a .start + 4 * (l .m + 1)) (bodiesFrom (a .words .now) (l .m + 1))) (c .before .before .put-low .ensures) ∙ piece-stored (l .book) (λ j. low 4 (at (a .words .now) j)) (a .start) 4 (l .m) (length (a .words .now)) refl (c .before .before .before .before .before .loop-test .taken) ∙ l .inv .1)
+    (omega arith, ap (λ (b : List ℕ). sets b (a .start + 4 * (l .m + 1)) (bodiesFrom (a .words .now) (l .m + 1))) (c .before .before .put-low .ensures) ∙ each-stored (l .book) (λ j. low 4 (at (a .words .now) j)) (a .start + 4 * l .m) (a .start + 4 * (l .m + 1)) (l .m) (length (a .words .now)) (omega arith) (c .before .before .before .before .before .loop-test .taken) ∙ l .inv .1)
 
 pub put-bodies-spec : {M : Type 1} → statement M
 put-bodies-spec =

@@ -9,8 +9,7 @@ use lib.Seq.{sets}
 use Rattle.licence.specs.Limit.{limit}
 use Rattle.book.specs.Bytes.{high, each}
 use Rattle.book.specs.Book.{offset, offsets}
-use Rattle.book.specs.ListLaws.{sets-length}
-use Rattle.book.proofs.Stores.{piece-stored}
+use Rattle.book.specs.ListLaws.{sets-length, each-stored}
 use Rattle.book.proofs.put_offsets.Statement.{statement}
 use Rattle.book.proofs.put_offsets.Tie as tie
 
@@ -31,7 +30,7 @@ loop-again : tie.Need-loop-again Inv-loop μ-loop
 loop-again c =
     let l = c .before .before .before .before .before .before .loop in
     let n = c .before .before .before .before .before .before .before .before .args .n in
-    (omega arith, ap (λ (b : List ℕ). sets b (2 + 4 * (l .i + 1)) (offsetsFrom n (l .i + 1))) (c .before .before .put-high .ensures ∙ ap (λ (v : ℕ). sets (l .book) (2 + 4 * l .i) (high 4 v)) (c .before .before .before .start-of .ensures)) ∙ piece-stored (l .book) (λ j. high 4 (offset n j)) 2 4 (l .i) n refl (c .before .before .before .before .before .loop-test .taken) ∙ l .inv .1)
+    (omega arith, ap (λ (b : List ℕ). sets b (2 + 4 * (l .i + 1)) (offsetsFrom n (l .i + 1))) (c .before .before .put-high .ensures ∙ ap (λ (v : ℕ). sets (l .book) (2 + 4 * l .i) (high 4 v)) (c .before .before .before .start-of .ensures)) ∙ each-stored (l .book) (λ j. high 4 (offset n j)) (2 + 4 * l .i) (2 + 4 * (l .i + 1)) (l .i) n (omega arith) (c .before .before .before .before .before .loop-test .taken) ∙ l .inv .1)
 
 pub put-offsets-spec : {M : Type 1} → statement M
 unfolding limit

@@ -1,13 +1,17 @@
-//! The real program, run on a file; a reader of its JSON; a maker of files.
+//! The real program, run on a file; a reader of its JSON; makers of files and books; a tally of answers.
 #![allow(dead_code)]
 
+pub mod books;
 pub mod json;
 pub mod made_up;
+pub mod tally;
 
-use std::ffi::OsStr;
-use std::fs;
+use std::ffi::{OsStr, OsString};
+use std::fs::{self, File};
 use std::path::{Path, PathBuf};
 use std::process::{Command, Output};
+
+use front::Streams;
 
 /// The header line of a file.
 pub const HEADER: &str = "name,queue,length,period,deadline,jitter\n";
@@ -44,6 +48,20 @@ pub fn said(output: Output) -> Said {
         err,
         status: output.status.code(),
     }
+}
+
+/// Runs the program with this file as its standard input.
+pub fn run_on(args: &[&str], path: &str) -> Said {
+    let input = File::open(root().join(path)).expect("a file for the standard input");
+    said(command().args(args).stdin(input).output().expect("the program runs"))
+}
+
+/// Does the same as the program, but within the test, with these bytes as the standard input; the
+/// output goes to no screen.
+pub fn run_here(args: &[&str], mut input: &[u8]) -> front::Said {
+    let mut streams =
+        Streams { input: &mut input, input_is_terminal: false, output_is_terminal: false };
+    front::run(args.iter().map(OsString::from).collect(), &mut streams)
 }
 
 /// A file with these bytes, in a place of this test's own.

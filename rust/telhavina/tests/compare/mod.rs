@@ -1,16 +1,20 @@
 //! What the library answers beside what the second program does, in the words of the second.
 
-use std::fmt::Display;
+use std::fmt::{Debug, Display};
 
 use second::Reply;
 use telhavina::Refusal;
 
-/// A reply, and what the lent list holds then.
-pub type Outcome = (Reply, Vec<u32>);
+/// A reply, and what the lent list of words, or of bytes, holds then.
+pub type Outcome<T = u32> = (Reply, Vec<T>);
 
 /// The outcome that both programs give on this case.
 #[track_caller]
-pub fn same(case: &impl Display, library: Outcome, second: Outcome) -> Outcome {
+pub fn same<T: PartialEq + Debug>(
+    case: &impl Display,
+    library: Outcome<T>,
+    second: Outcome<T>,
+) -> Outcome<T> {
     assert!(
         library == second,
         "{case}\nthe library: {:?}\n  {:?}\nthe second program: {:?}\n  {:?}",
@@ -28,6 +32,8 @@ pub fn kind(reply: Reply) -> &'static str {
         Reply::Passed => "passed",
         Reply::Late(_) => "late",
         Reply::Found(_) => "found",
+        Reply::BookRead(_) => "book read",
+        Reply::BookWritten(_) => "book written",
         Reply::Ragged => "1 ragged",
         Reply::TooMany => "2 too many",
         Reply::BadRow { .. } => "3 bad row",
@@ -38,6 +44,10 @@ pub fn kind(reply: Reply) -> &'static str {
         // At the lowest place already, or at a higher one.
         Reply::NoOrder { unplaced, tried } if tried == unplaced => "8 no order, at once",
         Reply::NoOrder { .. } => "8 no order, later",
+        Reply::EmptyBook => "20 empty book",
+        Reply::BookLength => "21 book length",
+        Reply::BookOffset(0) => "22 book offset, row 0",
+        Reply::BookOffset(_) => "22 book offset, later",
     }
 }
 
@@ -54,10 +64,13 @@ pub fn refused(refusal: Refusal) -> Reply {
         Refusal::NoOrder { unplaced, tried } => {
             Reply::NoOrder { unplaced: number(unplaced), tried: number(tried) }
         }
+        Refusal::EmptyBook => Reply::EmptyBook,
+        Refusal::BookLength => Reply::BookLength,
+        Refusal::BookOffset { row } => Reply::BookOffset(number(row)),
     }
 }
 
 /// What a reply carries, as the second program counts it.
 pub fn number(carried: usize) -> u32 {
-    u32::try_from(carried).expect("rows, fields, places and bands are few")
+    u32::try_from(carried).expect("rows, fields, places, bands and bytes are few")
 }

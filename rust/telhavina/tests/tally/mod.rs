@@ -3,7 +3,7 @@
 use std::collections::BTreeMap;
 
 /// How often each kind came up.
-#[derive(Default)]
+#[derive(Debug, Default, PartialEq, Eq)]
 pub struct Tally(BTreeMap<&'static str, u32>);
 
 impl Tally {
@@ -23,5 +23,12 @@ impl Tally {
     pub fn has(&self, kinds: usize, least: u32) {
         assert_eq!(self.0.len(), kinds, "some kind never came up");
         assert!(self.0.values().all(|&times| times >= least), "some kind was rare");
+    }
+}
+
+/// Each of these kinds came up just so often, for a comparison where that can be said beforehand.
+impl<const KINDS: usize> From<[(&'static str, u32); KINDS]> for Tally {
+    fn from(kinds: [(&'static str, u32); KINDS]) -> Tally {
+        Tally(kinds.into())
     }
 }

@@ -1,0 +1,5 @@
+pub mod Text
+pub mod Listed
+pub mod TextLaws
+pub mod Laws
+pub mod Outcome
