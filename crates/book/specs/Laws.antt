@@ -8,7 +8,7 @@ use mathlib.Core.Bool.{Bool, true, false, not, _||_}
 use mathlib.Core.List.{List, [], _∷_, _++_}
 use lib.ListN.{length, length-append}
 use lib.Seq.{sets}
-use lib.Dec.{T as Is, eqb, ltb, eqb-refl}
+use lib.Dec.{T as Is, eqb, ltb}
 use borrow.Author.Tests.{lt-ltb, le-ltb, ltb-false, eq-eqb, ne-eqb, eqb-true, eqb-false, not-false}
 use Rattle.sums.specs.Masks.{at, nowhere, lowest}
 use Rattle.sums.specs.Columns.{at as entry}
@@ -17,7 +17,7 @@ use Rattle.intake.specs.Words.{rows}
 use Rattle.intake.specs.Answer.{Answer, answer, refused, fine, refuseIf, refuseAt}
 use Rattle.intake.specs.Refusals.{shapeRefusal}
 use Rattle.intake.specs.Laws.{then-fine, if-fine, at-fine, shaped, whole-words}
-use Rattle.book.specs.Bytes.{low, high, fromHigh, part, each, over}
+use Rattle.book.specs.Bytes.{low, high, fromHigh, part, over}
 use Rattle.book.specs.Book.{offset, size, offsets, bodies, bookOf, wordAt, wordsIn, wordsOf, count, wrongOffset}
 use Rattle.book.specs.Replies.{readRefusal, writeRefusal}
 use Rattle.book.specs.ListLaws.{sets-append, sets-over, each-length}
@@ -139,7 +139,6 @@ module _ (book : List ℕ) (room : ℕ) where
         right = at-fine (lowest (count book) (wrongOffset book)) _ (d .0);
         roomy = ltb-false room (6 * count book) (if-fine (ltb room (6 * count book)) _ (d .1));
       }
-
 
 -- ---- one offset
 

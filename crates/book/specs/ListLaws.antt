@@ -4,9 +4,9 @@ use Prim.Native.Nat.{ℕ, zero, suc, _+_, _*_, _-_, _≤_, _<_}
 use native.Mathlib.Nat.{le-of-suc-le-suc}
 use native.Mathlib.Omega.{arith}
 use mathlib.Core.Path.{_≡_, refl, sym, ap, ap₂, subst, _∙_}
-use mathlib.Core.List.{List, [], _∷_, _++_, append-assoc, append-nil}
-use lib.ListN.{length, getD, take, drop, set, length-append, length-take, length-drop, drop-of-length-le}
-use lib.Seq.{sets, sets-eq, length-sets, set-comm, take-suc, drop-cons, getD-drop, getD-take, drop-drop, take-add, take-at, drop-at, take-append-add, drop-append-add, length-take-le}
+use mathlib.Core.List.{List, [], _∷_, _++_, append-assoc}
+use lib.ListN.{length, take, drop, set, length-append, length-drop, drop-of-length-le}
+use lib.Seq.{sets, sets-eq, length-sets, set-comm, take-suc, drop-cons, getD-drop, drop-drop, take-add, take-at, drop-append-add, length-take-le}
 use Rattle.sums.specs.Columns.{at}
 use Rattle.book.specs.Bytes.{part, each, over, Below}
 

@@ -1,14 +1,13 @@
 -- 'What it makes the reader gives back, and the other way round.' The promises come first, their proofs below.
 -- Assumes nothing.
-use Prim.Native.Nat.{ℕ, _+_, _*_, _^_, _≤_, _<_}
+use Prim.Native.Nat.{ℕ, _+_, _*_, _≤_, _<_}
 use native.Mathlib.Omega.{arith}
 use mathlib.Core.Path.{_≡_, refl, sym, ap, ap₂, subst, _∙_}
-use mathlib.Core.Logic.{_↔_}
-use mathlib.Core.List.{List, [], _∷_, _++_, append-nil, append-assoc}
-use lib.ListN.{length, take, drop, length-append, take-append-drop}
+use mathlib.Core.List.{List, [], _∷_, _++_, append-nil}
+use lib.ListN.{length, take}
 use lib.Seq.{drop-append-add, take-length}
-use lib.Dec.{T as Is, lit≤, lit<}
-use Rattle.sums.specs.Masks.{None, lowest, nowhere}
+use lib.Dec.{lit≤, lit<}
+use Rattle.sums.specs.Masks.{None}
 use Rattle.sums.specs.MaskLaws.{lowest-none, none-lowest}
 use Rattle.sums.specs.Columns.{at}
 use Rattle.licence.specs.Limit.{limit}
@@ -19,10 +18,10 @@ use Rattle.intake.specs.Laws.{shaped, whole-words, some-words, by-six, shape-no
 use Rattle.intake.specs.Told.{replied-fine}
 use Rattle.book.specs.Bytes.{low, high, fromLow, fromHigh, part, each, over, Below}
 use Rattle.book.specs.Book.{offset, size, offsets, bodies, bookOf, wordAt, wordsIn, wordsOf, count, wrongOffset}
-use Rattle.book.specs.Replies.{readRefusal, writeRefusal, BookRead, BookWritten}
+use Rattle.book.specs.Replies.{readRefusal, BookRead, BookWritten}
 use Rattle.book.specs.ByteLaws.{from-low, low-from, from-high, high-from}
 use Rattle.book.specs.ListLaws.{take-over, part-length, part-below, part-join, each-cong, each-part, each-parts, each-entries, each-at}
-use Rattle.book.specs.Laws.{offsets-length, bodies-length, book-length, words-length, writable, write-none, Readable, readable, read-none, offset-right, wrong-offset}
+use Rattle.book.specs.Laws.{offsets-length, book-length, words-length, writable, write-none, Readable, readable, read-none, offset-right, wrong-offset}
 use Rattle.book.specs.Outcome.{read-small, write-small}
 
 -- What was written is read back word for word, into any list that has room.
@@ -54,9 +53,9 @@ module _ (words : List ℕ) (shape : shapeRefusal words ≡ fine) where
   book-right i l =
       let n = rows words in
       let e : fromHigh (part (bookOf words) (2 + 4 * i) 4) ≡ offset n i =
-          ap (λ (r : List ℕ). fromHigh (take 4 r)) (drop-append-add (high 2 n) (offsets n ++ bodies words) (4 * i))
-          ∙ ap fromHigh (each-part (λ k. high 4 (offset n k)) 4 (λ k. refl) 0 n i (bodies words) (omega (arith, book-count)) ∙ ap (λ (k : ℕ). high 4 (offset n k)) (omega arith))
-          ∙ from-high 4 (offset n i) (omega (arith, shaped words shape .few, book-count)) in
+      ap (λ (r : List ℕ). fromHigh (take 4 r)) (drop-append-add (high 2 n) (offsets n ++ bodies words) (4 * i))
+      ∙ ap fromHigh (each-part (λ k. high 4 (offset n k)) 4 (λ k. refl) 0 n i (bodies words) (omega (arith, book-count)) ∙ ap (λ (k : ℕ). high 4 (offset n k)) (omega arith))
+      ∙ from-high 4 (offset n i) (omega (arith, shaped words shape .few, book-count)) in
       offset-right (bookOf words) i (e ∙ ap (λ (k : ℕ). offset k i) (sym book-count))
 
   book-fine : (room : ℕ) → length words ≤ room → readRefusal (bookOf words) room ≡ fine

@@ -1,6 +1,7 @@
 // Reads one book from standard input, and writes what is written for it. One byte more than the longest book decides (`first-bytes-listed`),
 // so no more is read.
-use libc::{STDIN_FILENO, STDOUT_FILENO};
+use libc::STDIN_FILENO;
+use libc::STDOUT_FILENO;
 
 fn main() {
     let mut book = [0u8; book::LONGEST + 1];

@@ -1,7 +1,7 @@
 -- Demand 3 on numbers: a band that passes keeps its figure in every legal run, whatever the verdicts on the other bands are. The promises come
 -- first, their proofs below.
 -- Assumes nothing.
-use Prim.Native.Nat.{ℕ, suc, _+_, _-_, _≤_, _<_}
+use Prim.Native.Nat.{ℕ, suc, _+_, _≤_, _<_}
 use native.Mathlib.Nat.{le-of-eq}
 use native.Mathlib.Decide.{ℕ-discrete}
 use native.Mathlib.Omega.{arith}

@@ -16,7 +16,7 @@ use Rattle.order.specs.Table.{Table}
 use Rattle.order.specs.Orders.{keyAt, own, above, below, PassesAt, FigureAt, AllPass}
 use Rattle.order.specs.Figures.{figure-one, figure-passes, figure-pos}
 use Rattle.intake.specs.Words.{rows, tableOf}
-use Rattle.intake.specs.Answer.{Answer, answer, Check, refused, fine}
+use Rattle.intake.specs.Answer.{Answer, answer, refused, fine}
 use Rattle.judge.specs.Judged.{judgementAnswer, orderRefusal, refusal, LateAt, ShownAt, Written, AllPassed, SomeLate, Judged}
 use Rattle.intake.specs.Laws.{replied-one}
 use Rattle.intake.specs.Told.{toldRefusal, told-refusal, not-refusal, Small, then-small, if-small, at-small, wider-small, number-small, replied-fine, table-small}

@@ -1,7 +1,7 @@
 -- The equation of a band looks only at the rows below n: tables and masks that agree there have one F, one MIN and one least E, and so one
 -- verdict and one figure.
 -- Assumes nothing.
-use Prim.Native.Nat.{ℕ, _+_, _-_, _<_, max, min}
+use Prim.Native.Nat.{ℕ, _+_, _<_, max, min}
 use mathlib.Core.Path.{_≡_, sym, ap, _∙_, subst₃, fun-ext}
 use Rattle.sums.specs.Masks.{Mask}
 use Rattle.sums.specs.Sums.{maxOver, minFrom, minOver}

@@ -6,3 +6,4 @@ pub mod Cases
 pub mod Idlers
 pub mod Shown
 pub mod Priority
+pub mod Program

@@ -44,7 +44,11 @@ fn writing_reply(w: book::Writing) -> intake::Reply
 
 // Judges an order: see include/telhavina.h.
 #[no_mangle]
-pub extern "C" fn telhavina_judge(table: &[u32], order: &[u32], figures: &mut [u32]) -> intake::Reply
+pub extern "C" fn telhavina_judge(
+    table: &[u32],
+    order: &[u32],
+    figures: &mut [u32],
+) -> intake::Reply
     ensures { λ r. ⌜ Judged (now (table .entry)) (now (order .entry)) (now (figures .entry)) (now (figures .exit)) (said r) ⌝ }
 {
     judgement_reply(judge::judge(table, order, figures))

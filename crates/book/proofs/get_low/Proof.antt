@@ -1,13 +1,12 @@
 -- `book::get_low` meets its contract: v is the number of the bytes from place k on. Assumes nothing.
 use borrow.Author.Needs.{needs}
 use native.Mathlib.Omega.{arith}
-use Prim.Native.Nat.{ℕ, suc, _+_, _*_, _^_, _≤_, _<_, _-_}
-use mathlib.Core.Path.{_≡_, refl, sym, ap, subst, _∙_}
+use Prim.Native.Nat.{ℕ, _+_, _*_, _^_, _≤_, _<_, _-_}
+use mathlib.Core.Path.{_≡_, refl, sym, subst}
 use lib.Dec.{lit<}
 use mir.Facts.{fits-8-32}
 use Rattle.sums.specs.Columns.{at}
 use Rattle.book.specs.Bytes.{fromLow, part}
-use Rattle.book.specs.ListLaws.{part-first}
 use Rattle.book.proofs.Room.{word-room, more-room, low-next}
 use Rattle.book.proofs.get_low.Statement.{statement}
 use Rattle.book.proofs.get_low.Tie as tie
@@ -45,7 +44,7 @@ get-low-spec =
     (λ c. search needs)
     loop-again
     (λ c. let l = c .before .loop in
-       let a = c .before .before .args in
-       let from : a .at + l .k ≡ a .at = omega arith in
-       let all : a .width - l .k ≡ a .width = omega arith in
-       rw (from, all) at (l .inv .2)))
+    let a = c .before .before .args in
+    let from : a .at + l .k ≡ a .at = omega arith in
+    let all : a .width - l .k ≡ a .width = omega arith in
+    rw (from, all) at (l .inv .2)))

@@ -2,8 +2,8 @@
 -- Assumes nothing.
 use borrow.Author.Needs.{needs}
 use native.Mathlib.Omega.{arith}
-use Prim.Native.Nat.{ℕ, _≤_, _<_}
-use mathlib.Core.Path.{_≡_, sym, ap, _∙_}
+use Prim.Native.Nat.{ℕ}
+use mathlib.Core.Path.{_≡_, ap, _∙_}
 use mathlib.Core.List.{List}
 use lib.ListN.{length}
 use lib.Seq.{sets, length-sets}
@@ -11,7 +11,7 @@ use Rattle.licence.specs.Limit.{limit}
 use Rattle.intake.specs.Answer.{answer}
 use Rattle.intake.specs.Laws.{shaped, whole-words, counted-rows, counted-refused, replied-refused, replied-answered}
 use Rattle.book.specs.Bytes.{high}
-use Rattle.book.specs.Book.{size, offsets, bodies, bookOf}
+use Rattle.book.specs.Book.{size, offsets, bodies}
 use Rattle.book.specs.Laws.{book-length, book-stored, write-shape, write-4, write-none}
 use Rattle.book.proofs.write.Statement.{statement}
 use Rattle.book.proofs.write.Tie as tie

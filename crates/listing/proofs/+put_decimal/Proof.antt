@@ -2,7 +2,7 @@
 -- stores, and the last.
 -- Assumes nothing.
 use native.Mathlib.Omega.{arith}
-use Prim.Native.Nat.{ℕ, _+_, _≤_, _<_, _/_, _%_}
+use Prim.Native.Nat.{ℕ, _+_, _<_, _/_, _%_}
 use mathlib.Core.Path.{_≡_, sym, ap, ap₂, subst, _∙_}
 use mathlib.Core.List.{List, [], _∷_}
 use lib.ListN.{length, set, length-set}
@@ -58,20 +58,20 @@ pub +put-decimal-spec : {M : Type 1} → statement M
     close
     μ-put-decimal
     (λ t.
-      put-decimal-lts.spec
-      (asked t, put-decimal.Post)
-      (given t)
-      put-decimal.Post
-      (λ c. omega (arith, c .if1 .taken))
-      (λ c. omega (arith, c .if1 .taken))
-      (λ c. omega (arith, c .before .before .pre .1, ap length (one t c)))
-      (λ c. omega (arith, c .before .before .pre .1, ap length (one t c)))
-      (λ c. length-set (c .before .before .args .text .now) (c .before .before .args .end) (48 + c .before .before .args .n))
-      (returns t)
-      (requires t)
-      (λ c. omega arith)
-      (λ c. omega arith)
-      (λ c. place t c)
-      (λ c. omega (arith, place t c))
-      (λ c. length-set (c .before .before .put-decimal .last .0) (c .before .before .put-decimal .result) (48 + c .before .before .before .before .before .before .args .n % 10) ∙ kept t c)
-      (returns-2 t))
+    put-decimal-lts.spec
+    (asked t, put-decimal.Post)
+    (given t)
+    put-decimal.Post
+    (λ c. omega (arith, c .if1 .taken))
+    (λ c. omega (arith, c .if1 .taken))
+    (λ c. omega (arith, c .before .before .pre .1, ap length (one t c)))
+    (λ c. omega (arith, c .before .before .pre .1, ap length (one t c)))
+    (λ c. length-set (c .before .before .args .text .now) (c .before .before .args .end) (48 + c .before .before .args .n))
+    (returns t)
+    (requires t)
+    (λ c. omega arith)
+    (λ c. omega arith)
+    (λ c. place t c)
+    (λ c. omega (arith, place t c))
+    (λ c. length-set (c .before .before .put-decimal .last .0) (c .before .before .put-decimal .result) (48 + c .before .before .before .before .before .before .args .n % 10) ∙ kept t c)
+    (returns-2 t))

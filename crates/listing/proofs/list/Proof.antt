@@ -1,8 +1,8 @@
 -- `listing::list` meets its contract: the book is read and its words are listed, or the refusal. Assumes nothing.
 use borrow.Author.Needs.{needs}
 use native.Mathlib.Omega.{arith}
-use Prim.Native.Nat.{ℕ, _≤_, _<_, _-_, _+_, _*_}
-use mathlib.Core.Path.{_≡_, refl, sym, ap, subst, _∙_}
+use Prim.Native.Nat.{ℕ, _≤_, _*_}
+use mathlib.Core.Path.{_≡_, sym, ap, subst, _∙_}
 use mathlib.Core.List.{List}
 use lib.ListN.{length, take, replicate}
 use Rattle.licence.specs.Limit.{limit}
@@ -10,7 +10,7 @@ use Rattle.intake.specs.Answer.{Answer, answer, refusalAnswer}
 use Rattle.intake.specs.Told.{refusal-small}
 use Rattle.book.specs.Replies.{BookRead, readingAnswer}
 use Rattle.listing.specs.Text.{refusedLine}
-use Rattle.listing.specs.Listed.{WordsListed, Listed}
+use Rattle.listing.specs.Listed.{WordsListed}
 use Rattle.listing.specs.Laws.{WordsRead, words-read, text-there, refused-most, counts}
 use Rattle.listing.proofs.list.Statement.{statement}
 use Rattle.listing.proofs.list.Tie as tie
@@ -33,21 +33,25 @@ returns c =
     let r = c .before .before .before .reading .given .0 .0 in
     let read = subst (BookRead (c .before .before .before .before .before .before .before .before .before .args .book .now) (replicate 384 0) (c .before .before .before .before .before .before .read .last .1 .0)) (ap readingAnswer (c .before .before .before .reading .given .1)) (c .before .before .before .before .before .before .read .ensures) in
     let e = c .put-refusal .ensures in
-    let t = text-there (c .before .before .before .before .before .before .before .before .before .args .text .now) (refusedLine (refusalAnswer r .number)) (e .0) (e .1) (omega (arith, refused-most r, c .before .put-refusal-arg .given .0 .1)) in
-    (counts _ (t .0), record {
-      unread = λ x q. t .1 ∙ ap (λ (a : Answer). refusedLine (a .number)) (read .refusing x q .0);
-      listed = λ q. absurd (omega (arith, refusal-small r, ap (λ (a : Answer). a .number) (read .answering q .0)));
-    })
+    let t = text-there (c .before .before .before .before .before .before .before .before .before .args .text .now) (refusedLine (refusalAnswer r .number)) (e .0) (e .1) (omega (arith, refused-most r, c .before .put-refusal-arg .given .0 .1)) in (
+      counts _ (t .0),
+      record {
+        unread = λ x q. t .1 ∙ ap (λ (a : Answer). refusedLine (a .number)) (read .refusing x q .0);
+        listed = λ q. absurd (omega (arith, refusal-small r, ap (λ (a : Answer). a .number) (read .answering q .0)));
+      },
+    )
 
 returns-2 : tie.Need-returns-2
 unfolding limit
 returns-2 c =
     let x = words (c .before .before .before) in
-    let e = c .list-words .ensures in
-    (counts _ (e .0), record {
-      unread = λ r q. absurd (let z : _≡_ {A = ℕ} 0 1 = cc in omega arith);
-      listed = λ q. subst (λ (w : List ℕ). WordsListed w (take (c .list-words .result) (c .list-words .last .1 .1 .0))) (x .there) (e .1);
-    })
+    let e = c .list-words .ensures in (
+      counts _ (e .0),
+      record {
+        unread = λ r q. absurd (let z : _≡_ {A = ℕ} 0 1 = cc in omega arith);
+        listed = λ q. subst (λ (w : List ℕ). WordsListed w (take (c .list-words .result) (c .list-words .last .1 .1 .0))) (x .there) (e .1);
+      },
+    )
 
 pub list-spec : {M : Type 1} → statement M
 unfolding limit

@@ -1,17 +1,15 @@
 -- `listing::list_words` meets its contract: an order is found and judged, and its lines are stored; or the refusal. Assumes nothing.
 use borrow.Author.Needs.{needs}
 use native.Mathlib.Omega.{arith}
-use Prim.Native.Nat.{ℕ, _≤_, _<_, _-_, _+_, _*_}
-use mathlib.Core.Path.{_≡_, refl, sym, ap, subst, _∙_}
-use mathlib.Core.List.{List}
+use Prim.Native.Nat.{ℕ, _≤_}
+use mathlib.Core.Path.{refl, sym, ap, subst, _∙_}
 use lib.ListN.{length, take}
 use Rattle.licence.specs.Limit.{limit}
-use Rattle.intake.specs.Words.{rows}
 use Rattle.intake.specs.Answer.{Answer, answer, refusalAnswer}
 use Rattle.finder.specs.Searched.{Searched, findingAnswer}
 use Rattle.judge.specs.Judged.{Judged, judgementAnswer}
 use Rattle.listing.specs.Text.{lines, refusedLine}
-use Rattle.listing.specs.Listed.{blank, WordsListed, none, found}
+use Rattle.listing.specs.Listed.{blank, none, found}
 use Rattle.listing.specs.Laws.{RowsOnce, found-rows, text-there, refused-most, counts}
 use Rattle.listing.proofs.list_words.Statement.{statement}
 use Rattle.listing.proofs.list_words.Tie as tie

@@ -1,14 +1,14 @@
 -- `listing::put_refusal` meets its contract: the word, the number and the line's end are stored one after the other. Assumes nothing.
 use borrow.Author.Needs.{needs}
 use native.Mathlib.Omega.{arith}
-use Prim.Native.Nat.{ℕ, _+_, _≤_, _<_}
-use mathlib.Core.Path.{_≡_, sym, ap, _∙_}
-use mathlib.Core.List.{List, [], _∷_}
+use Prim.Native.Nat.{ℕ, _+_, _≤_}
+use mathlib.Core.Path.{_≡_, ap, _∙_}
+use mathlib.Core.List.{List}
 use lib.ListN.{length, set, length-set}
 use lib.Seq.{sets, length-sets}
 use Rattle.intake.specs.Answer.{Answer, refusalAnswer}
 use Rattle.intake.specs.Told.{refusal-small}
-use Rattle.listing.specs.Text.{decimal, refusedLine}
+use Rattle.listing.specs.Text.{decimal}
 use Rattle.listing.specs.TextLaws.{decimal-length, word, refused-length, refused-stored}
 use Rattle.listing.proofs.put_refusal.Statement.{statement}
 use Rattle.listing.proofs.put_refusal.Tie as tie
