@@ -3,7 +3,7 @@
 use Prim.Native.Nat.{ℕ, zero, suc, _+_, _*_, _/_, _%_, _^_, _<_}
 use native.Mathlib.Nat.{pow-suc, div-lt-iff-lt-mul}
 use native.Mathlib.Omega.{arith}
-use mathlib.Core.Path.{_≡_, refl, sym, ap, ap₂, subst, _∙_}
+use mathlib.Core.Path.{_≡_, refl, sym, ap, ap₂, _∙_}
 use mathlib.Core.List.{List, [], _∷_, _++_, reverse, reverseAux, reverse-cons, reverse-append, reverse-reverse}
 use lib.ListN.{length, length-reverse}
 use lib.Dec.{lit<}
@@ -29,11 +29,6 @@ low-from (b ∷ bytes) h =
     let byte : (b + 256 * fromLow bytes) % 256 ≡ b = omega (arith, h 0) in
     ap₂ (λ (x : ℕ) (l : List ℕ). x ∷ l) byte (ap (low (length bytes)) rest ∙ low-from bytes (λ i. h (suc i)))
 
--- what bytes stand for fits
-pub from-low-fits : (bytes : List ℕ) → Below 256 bytes → fromLow bytes < 256 ^ length bytes
-from-low-fits [] h = lit< tt
-from-low-fits (b ∷ bytes) h = omega (arith, h 0, from-low-fits bytes (λ i. h (suc i)), pow-suc 256 (length bytes))
-
 -- ---- the law of high byte first: the same from the other end
 
 module _ (most : ℕ) where
@@ -54,9 +49,6 @@ from-high w v l = ap fromLow (reverse-reverse (low w v)) ∙ from-low w v l
 pub high-from : (bytes : List ℕ) → Below 256 bytes → high (length bytes) (fromHigh bytes) ≡ bytes
 high-from bytes h =
     ap (λ (w : ℕ). high w (fromHigh bytes)) (sym (length-reverse bytes)) ∙ ap reverse (low-from (reverse bytes) (below-reverse 256 bytes (lit< tt) h)) ∙ reverse-reverse bytes
-
-pub from-high-fits : (bytes : List ℕ) → Below 256 bytes → fromHigh bytes < 256 ^ length bytes
-from-high-fits bytes h = subst (λ (w : ℕ). fromHigh bytes < 256 ^ w) (length-reverse bytes) (from-low-fits (reverse bytes) (below-reverse 256 bytes (lit< tt) h))
 
 -- ---- one byte more, at the low end
 

@@ -32,9 +32,6 @@ sets-length l l′ i i′ xs xs′ e = sym (length-sets l i xs) ∙ ap length e 
 pub sets-over : (l xs : List ℕ) → length xs ≤ length l → sets l 0 xs ≡ over xs l
 sets-over l xs h = let z : 0 + length xs ≡ length xs = omega arith in sets-eq xs l 0 (omega arith) ∙ ap (λ (k : ℕ). xs ++ drop k l) z
 
-pub over-length : (l xs : List ℕ) → length xs ≤ length l → length (over xs l) ≡ length l
-over-length l xs h = sym (ap length (sets-over l xs h)) ∙ length-sets l 0 xs
-
 pub take-over : (l xs : List ℕ) {n : ℕ} → length xs ≡ n → take n (over xs l) ≡ xs
 take-over l xs {n} e = take-at xs (drop (length xs) l) n e
 

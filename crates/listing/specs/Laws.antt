@@ -5,7 +5,7 @@ use native.Mathlib.Omega.{arith}
 use mathlib.Core.Path.{_≡_, sym, ap, subst, _∙_}
 use mathlib.Core.List.{List}
 use lib.ListN.{length, take, drop}
-use lib.Seq.{sets, length-sets, take-at, length-take-le}
+use lib.Seq.{sets, length-sets, take-at, drop-at, length-take-le}
 use lib.Dec.{lit≤}
 use Rattle.sums.specs.Columns.{at}
 use Rattle.licence.specs.Limit.{limit}
@@ -22,9 +22,9 @@ use Rattle.book.specs.Replies.{readRefusal, BookRead}
 use Rattle.book.specs.ListLaws.{sets-over, take-over}
 use Rattle.book.specs.Laws.{readable, words-length}
 use Rattle.book.specs.Outcome.{read-small}
-use Rattle.listing.specs.Text.{refusedLine}
+use Rattle.listing.specs.Text.{refusedLine, lineMost}
 use Rattle.listing.specs.TextLaws.{decimal-length, refused-length}
-use Rattle.listing.specs.Listed.{Counts}
+use Rattle.listing.specs.Listed.{Stands, Counts}
 
 -- as many entries as rows, each a row
 pub record RowsOnce (n : ℕ) (order : List ℕ) : Type 0 where
@@ -67,11 +67,16 @@ words-read book before after n r =
     }
 
 -- what was stored from the start stands there
-pub text-there : (text xs : List ℕ) {after : List ℕ} {r : ℕ} → r ≡ length xs → after ≡ sets text 0 xs → length xs ≤ length text → (r ≤ length after) × (take r after ≡ xs)
-text-there text xs {after} {r} e s l =
-    (omega (arith, e, ap length s ∙ length-sets text 0 xs), ap (take r) (s ∙ sets-over text xs l) ∙ take-over text xs (sym e))
+pub text-stands : (Text : List ℕ → Type 0) (list xs : List ℕ) {after : List ℕ} {r : ℕ} → r ≡ length xs → after ≡ sets list 0 xs → length xs ≤ length list → Text xs → Stands Text list after r
+text-stands Text list xs {after} {r} e s l x =
+    let laid = s ∙ sets-over list xs l in
+    record {
+      inside = omega (arith, e, ap length s ∙ length-sets list 0 xs);
+      text = subst Text (sym (ap (take r) laid ∙ take-over list xs (sym e))) x;
+      behind = ap (drop r) laid ∙ drop-at xs (drop (length xs) list) r (sym e) ∙ ap (λ (k : ℕ). drop k list) (sym e);
+    }
 
-pub refused-most : (r : Refusal) → length (refusedLine (refusalAnswer r .number)) ≤ 22
+pub refused-most : (r : Refusal) → length (refusedLine (refusalAnswer r .number)) ≤ lineMost
 refused-most r = omega (arith, refused-length (refusalAnswer r .number), decimal-length 1 (refusalAnswer r .number) (refusal-small r))
 
 pub counts : (text : List ℕ) {n : ℕ} → n ≤ length text → Counts n text

@@ -3,7 +3,7 @@
 use Prim.Native.Nat.{ℕ, _*_, _≤_}
 use mathlib.Core.Path.{_≡_}
 use mathlib.Core.List.{List}
-use lib.ListN.{length, take, replicate}
+use lib.ListN.{length, take, drop, replicate}
 use Rattle.licence.specs.Limit.{limit}
 use Rattle.intake.specs.Words.{rows}
 use Rattle.intake.specs.Answer.{Answer, answer, refusalAnswer, refused, fine}
@@ -32,6 +32,12 @@ pub record Listed (book text : List ℕ) : Type 0 where
   pub unread : (r : Answer) → readRefusal book (6 * limit) ≡ refused r → text ≡ refusedLine (r .number)
   pub listed : readRefusal book (6 * limit) ≡ fine → WordsListed (wordsOf book) text
 
--- n counts bytes at the start of a text; the second part follows from the first, and is there for callers
+-- a text with this property stands in the first r places of a list, and what stood behind them stays
+pub record Stands (Text : List ℕ → Type 0) (before after : List ℕ) (r : ℕ) : Type 0 where
+  pub inside : r ≤ length after
+  pub text : Text (take r after)
+  pub behind : drop r after ≡ drop r before
+
+-- r counts places at the start of a list; the second part follows from the first, and is there for callers
 abbrev pub Counts : ℕ → List ℕ → Type 0
-Counts n text = (n ≤ length text) × (n ≡ length (take n text))
+Counts r list = (r ≤ length list) × (r ≡ length (take r list))

@@ -3,8 +3,9 @@
 use Prim.Native.Nat.{ℕ, _*_, _≤_, _<_}
 use native.Mathlib.Omega.{arith}
 use mathlib.Core.Path.{_≡_, refl, sym, ap, ap₂, subst, _∙_}
-use mathlib.Core.List.{List}
-use lib.ListN.{length, take}
+use mathlib.Core.List.{List, _++_}
+use lib.ListN.{length, take, drop, take-append-drop}
+use lib.Seq.{length-take-le}
 use Rattle.licence.specs.Limit.{limit}
 use Rattle.intake.specs.Words.{rows}
 use Rattle.intake.specs.Answer.{Answer, answer, refusalAnswer, Check, refused, fine}
@@ -16,11 +17,15 @@ use Rattle.book.specs.Book.{size, wordsOf}
 use Rattle.book.specs.Replies.{readRefusal}
 use Rattle.book.specs.Outcome.{first-bytes-decide}
 use Rattle.listing.specs.Text.{lines, refusedLine}
-use Rattle.listing.specs.Listed.{blank, WordsListed, none, found, Listed}
+use Rattle.listing.specs.Listed.{blank, WordsListed, none, found, Listed, Stands}
 
 -- No two texts are right for one book.
 abbrev pub OneText : Type 0
 OneText = (book text text′ : List ℕ) → Listed book text → Listed book text′ → text ≡ text′
+
+-- So of `list`: no two numbers of bytes, and no two lists afterwards.
+abbrev pub OneListing : Type 0
+OneListing = (book before after after′ : List ℕ) (r r′ : ℕ) → Stands (Listed book) before after r → Stands (Listed book) before after′ r′ → (r ≡ r′) × (after ≡ after′)
 
 -- Of an input that is longer than any book, the text for any first bytes that are longer too is the text for the whole.
 abbrev pub FirstBytesListed : Type 0
@@ -47,6 +52,12 @@ one-text book text text′ x y = go (readRefusal book (6 * limit)) refl
     go : (c : Check) → readRefusal book (6 * limit) ≡ c → text ≡ text′
     go (refused r) e = x .unread r e ∙ sym (y .unread r e)
     go fine e = one-words (wordsOf book) text text′ (x .listed e) (y .listed e)
+
+pub one-listing : OneListing
+one-listing book before after after′ r r′ x y =
+    let same = one-text book (take r after) (take r′ after′) (x .text) (y .text) in
+    let long : r ≡ r′ = sym (length-take-le r after (x .inside)) ∙ ap length same ∙ length-take-le r′ after′ (y .inside) in
+    (long, sym (take-append-drop r after) ∙ ap₂ (λ (t b : List ℕ). t ++ b) same (x .behind ∙ ap (λ (k : ℕ). drop k before) long ∙ sym (y .behind)) ∙ take-append-drop r′ after′)
 
 pub first-bytes-listed : FirstBytesListed
 first-bytes-listed input text k l h x =

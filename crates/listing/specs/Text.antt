@@ -25,6 +25,14 @@ line row figure = decimal row ++ (32 ∷ []) ++ decimal figure ++ (10 ∷ [])
 abbrev pub lines : (order figures : List ℕ) → List ℕ
 lines order figures = each (λ p. line (at order p) (at figures (at order p))) 0 (length order)
 
--- 'A refusal is one line, such as refused 8': the bytes of 'refused ', the number, and the line's end
+-- the bytes of 'refused '
+abbrev pub word : List ℕ
+word = 114 ∷ 101 ∷ 102 ∷ 117 ∷ 115 ∷ 101 ∷ 100 ∷ 32 ∷ []
+
+-- 'A refusal is one line, such as refused 8': the word, the number, and the line's end
 abbrev pub refusedLine : ℕ → List ℕ
-refusedLine number = (114 ∷ 101 ∷ 102 ∷ 117 ∷ 115 ∷ 101 ∷ 100 ∷ 32 ∷ []) ++ decimal number ++ (10 ∷ [])
+refusedLine number = word ++ decimal number ++ (10 ∷ [])
+
+-- no line is longer: two numbers of at most ten digits, a space and its end
+abbrev pub lineMost : ℕ
+lineMost = 22

@@ -12,7 +12,7 @@ use lib.Seq.{sets}
 use lib.Dec.{ltb, lit<}
 use borrow.Author.Tests.{lt-ltb, le-ltb}
 use Rattle.book.specs.ListLaws.{sets-append}
-use Rattle.listing.specs.Text.{spelled, decimal, line, refusedLine}
+use Rattle.listing.specs.Text.{spelled, decimal, line, word, refusedLine, lineMost}
 
 -- any number from n on will do for counting down
 spelled-same : (a b n : ℕ) → n ≤ a → n ≤ b → spelled a n ≡ spelled b n
@@ -58,7 +58,7 @@ line-length row figure =
     length-append (decimal row ++ (32 ∷ []) ++ decimal figure) (10 ∷ [])
     ∙ omega (arith, length-append (decimal row ++ (32 ∷ [])) (decimal figure), length-append (decimal row) (32 ∷ []))
 
-pub line-most : (row figure : ℕ) → row < 4294967296 → figure < 4294967296 → length (line row figure) ≤ 22
+pub line-most : (row figure : ℕ) → row < 4294967296 → figure < 4294967296 → length (line row figure) ≤ lineMost
 line-most row figure l h = omega (arith, line-length row figure, word-length row l, word-length figure h)
 
 pub line-stored : (text : List ℕ) (row figure end : ℕ) {space stop : ℕ} → space ≡ end + length (decimal row) → stop ≡ space + 1 + length (decimal figure)
@@ -77,10 +77,6 @@ line-stored text row figure end {space} {stop} s e =
     ∙ sym (sets-append text end (a ++ (32 ∷ []) ++ b) (10 ∷ []))
 
 -- ---- a refusal
-
--- the bytes of 'refused '
-abbrev pub word : List ℕ
-word = 114 ∷ 101 ∷ 102 ∷ 117 ∷ 115 ∷ 101 ∷ 100 ∷ 32 ∷ []
 
 pub refused-length : (number : ℕ) → length (refusedLine number) ≡ 8 + length (decimal number) + 1
 refused-length number = length-append (word ++ decimal number) (10 ∷ []) ∙ omega (arith, length-append word (decimal number))

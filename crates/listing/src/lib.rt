@@ -1,20 +1,17 @@
 // What the program writes for a book: a line a row, highest first, or one line that refuses.
 ghost use mathlib.Core.Path.{_≡_};
 ghost use Prim.Native.Nat.{ℕ, _+_, _*_, _≤_, _<_};
-ghost use lib.ListN.{length, take};
+ghost use lib.ListN.{length};
 ghost use lib.Seq.{sets};
 ghost use Rattle.sums.specs.Columns.{at};
 ghost use Rattle.licence.specs.Limit.{limit};
 ghost use Rattle.intake.specs.Words.{rows};
 ghost use Rattle.intake.specs.Answer.{refusalAnswer};
-ghost use Rattle.listing.specs.Text.{decimal, line, lines, refusedLine};
-ghost use Rattle.listing.specs.Listed.{WordsListed, Counts, Listed};
+ghost use Rattle.listing.specs.Text.{decimal, line, lines, refusedLine, lineMost};
+ghost use Rattle.listing.specs.Listed.{WordsListed, Listed, Stands, Counts};
 
-// A line has two numbers of at most ten digits, a space and its end.
-const LINE: usize = 22;
-
-// No text is longer than this.
-pub const LONGEST: usize = LINE * licence::LIMIT;
+// No text is longer than this: a line a row, each of at most 22 bytes (`lineMost`).
+pub const LONGEST: usize = 22 * licence::LIMIT;
 
 // Writes n in decimal from place `end` on, and answers where it ends.
 fn put_decimal(text: &mut [u8], end: usize, n: u32) -> usize
@@ -32,7 +29,7 @@ fn put_decimal(text: &mut [u8], end: usize, n: u32) -> usize
 
 // Writes a line from place `end` on, row, space and figure, and answers where it ends.
 fn put_line(text: &mut [u8], end: usize, row: u32, figure: u32) -> usize
-    requires { ⌜ end + 22 ≤ length (now text) ⌝ }
+    requires { ⌜ end + lineMost ≤ length (now text) ⌝ }
     ensures { λ r. ⌜ (r ≡ end + length (line row figure)) × (now (text .exit) ≡ sets (now (text .entry)) end (line row figure)) ⌝ }
 {
     let space = put_decimal(text, end, row);
@@ -44,8 +41,8 @@ fn put_line(text: &mut [u8], end: usize, row: u32, figure: u32) -> usize
 
 // Writes a line for each row of the order, and answers where they end.
 fn put_lines(order: &[u32], figures: &[u32], text: &mut [u8]) -> usize
-    requires { ⌜ ((p : ℕ) → p < length (now order) → at (now order) p < length (now figures)) × (22 * length (now order) ≤ length (now text)) ⌝ }
-    ensures { λ r. ⌜ (r ≤ 22 * length (now (order .entry))) × (r ≡ length (lines (now (order .entry)) (now (figures .entry)))) × (now (text .exit) ≡ sets (now (text .entry)) 0 (lines (now (order .entry)) (now (figures .entry)))) ⌝ }
+    requires { ⌜ ((p : ℕ) → p < length (now order) → at (now order) p < length (now figures)) × (lineMost * length (now order) ≤ length (now text)) ⌝ }
+    ensures { λ r. ⌜ (r ≤ lineMost * length (now (order .entry))) × (r ≡ length (lines (now (order .entry)) (now (figures .entry)))) × (now (text .exit) ≡ sets (now (text .entry)) 0 (lines (now (order .entry)) (now (figures .entry)))) ⌝ }
 {
     let mut end: usize = 0;
     let mut p: usize = 0;
@@ -59,7 +56,7 @@ fn put_lines(order: &[u32], figures: &[u32], text: &mut [u8]) -> usize
 
 // Writes the line of a refusal, and answers where it ends.
 fn put_refusal(text: &mut [u8], r: intake::Refusal) -> usize
-    requires { ⌜ 22 ≤ length (now text) ⌝ }
+    requires { ⌜ lineMost ≤ length (now text) ⌝ }
     ensures { λ x. ⌜ (x ≡ length (refusedLine (refusalAnswer r .number))) × (now (text .exit) ≡ sets (now (text .entry)) 0 (refusedLine (refusalAnswer r .number))) ⌝ }
 {
     text[0] = b'r';
@@ -77,8 +74,8 @@ fn put_refusal(text: &mut [u8], r: intake::Refusal) -> usize
 
 // Writes the text for the words of n rows, and answers where it ends.
 fn list_words(words: &[u32], n: usize, text: &mut [u8]) -> usize
-    requires { ⌜ (n ≡ rows (now words)) × (22 * limit ≤ length (now text)) ⌝ }
-    ensures { λ r. ⌜ (r ≤ length (now (text .exit))) × WordsListed (now (words .entry)) (take r (now (text .exit))) ⌝ }
+    requires { ⌜ (n ≡ rows (now words)) × (lineMost * limit ≤ length (now text)) ⌝ }
+    ensures { λ r. ⌜ Stands (WordsListed (now (words .entry))) (now (text .entry)) (now (text .exit)) r ⌝ }
 {
     let mut order = [0u32; licence::LIMIT];
     let finding = finder::find(words, &mut order);
@@ -93,7 +90,7 @@ fn list_words(words: &[u32], n: usize, text: &mut [u8]) -> usize
 // Writes the text for a book, and answers where it ends.
 pub fn list(book: &[u8], text: &mut [u8; LONGEST]) -> usize
     ensures { λ r. ⌜ Counts r (now (text .exit)) ⌝ }
-    ensures { λ r. ⌜ Listed (now (book .entry)) (take r (now (text .exit))) ⌝ }
+    ensures { λ r. ⌜ Stands (Listed (now (book .entry))) (now (text .entry)) (now (text .exit)) r ⌝ }
 {
     let mut words = [0u32; 6 * licence::LIMIT];
     let reading = book::read(book, &mut words);

@@ -7,7 +7,7 @@ use native.Mathlib.Omega.{arith}
 use mathlib.Core.Path.{_≡_, refl, subst}
 use mathlib.Core.Logic.{_⊎_, inl, inr}
 use mathlib.Core.List.{List, [], _∷_}
-use lib.ListN.{length, take, replicate}
+use lib.ListN.{length, take, drop}
 use Rattle.sums.specs.Masks.{anyBelow, orElse, lowest}
 use Rattle.sums.specs.Sums.{over, ceil, load, demand}
 use Rattle.licence.specs.Limit.{limit}
@@ -82,10 +82,10 @@ listed-is-kept book text x e = go (x .listed e)
 
 -- the order that is found, in the list lent for it, and the figures
 abbrev foundA : List ℕ
-foundA = 3 ∷ 1 ∷ 2 ∷ 0 ∷ replicate 60 0
+foundA = 3 ∷ 1 ∷ 2 ∷ 0 ∷ drop 4 blank
 
 abbrev figuresA : List ℕ
-figuresA = 575 ∷ 325 ∷ 450 ∷ 200 ∷ replicate 60 0
+figuresA = 575 ∷ 325 ∷ 450 ∷ 200 ∷ drop 4 blank
 
 pub table-a-listed : TableAListed
 unfolding readRefusal blank decimal tableRefusal shapeRefusal ragged limit badField firstBad sizeAllowed orderRefusal badEntry resumes lowest orElse anyBelow bandKey bitTimes mem base demand over load ceil reckon climb decLe ℕ-discrete same-list follow leads rising

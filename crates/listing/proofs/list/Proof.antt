@@ -10,8 +10,8 @@ use Rattle.intake.specs.Answer.{Answer, answer, refusalAnswer}
 use Rattle.intake.specs.Told.{refusal-small}
 use Rattle.book.specs.Replies.{BookRead, readingAnswer}
 use Rattle.listing.specs.Text.{refusedLine}
-use Rattle.listing.specs.Listed.{WordsListed}
-use Rattle.listing.specs.Laws.{WordsRead, words-read, text-there, refused-most, counts}
+use Rattle.listing.specs.Listed.{WordsListed, Listed}
+use Rattle.listing.specs.Laws.{WordsRead, words-read, text-stands, refused-most, counts}
 use Rattle.listing.proofs.list.Statement.{statement}
 use Rattle.listing.proofs.list.Tie as tie
 
@@ -21,7 +21,7 @@ unfolding limit
 words c =
     let book = c .before .before .before .before .before .before .before .before .args .book .now in
     let said = ap readingAnswer (c .before .before .reading2 .given .1) ∙ ap (λ (n : ℕ). answer 103 n 0) (sym (c .index .ensures)) in
-    words-read book (replicate 384 0) (c .before .before .before .before .before .read .last .1 .0) (c .index .result) (subst (BookRead book (replicate 384 0) (c .before .before .before .before .before .read .last .1 .0)) said (c .before .before .before .before .before .read .ensures))
+    words-read book (replicate (6 * limit) 0) (c .before .before .before .before .before .read .last .1 .0) (c .index .result) (subst (BookRead book (replicate (6 * limit) 0) (c .before .before .before .before .before .read .last .1 .0)) said (c .before .before .before .before .before .read .ensures))
 
 words-room : (c : tie.After-index) → 6 * c .index .result ≤ length (c .before .before .before .before .before .read .last .1 .0)
 unfolding limit
@@ -30,26 +30,29 @@ words-room c = omega (arith, words c .roomy, c .before .before .before .before .
 returns : tie.Need-returns
 unfolding limit
 returns c =
+    let book = c .before .before .before .before .before .before .before .before .before .args .book .now in
     let r = c .before .before .before .reading .given .0 .0 in
-    let read = subst (BookRead (c .before .before .before .before .before .before .before .before .before .args .book .now) (replicate 384 0) (c .before .before .before .before .before .before .read .last .1 .0)) (ap readingAnswer (c .before .before .before .reading .given .1)) (c .before .before .before .before .before .before .read .ensures) in
+    let read = subst (BookRead book (replicate (6 * limit) 0) (c .before .before .before .before .before .before .read .last .1 .0)) (ap readingAnswer (c .before .before .before .reading .given .1)) (c .before .before .before .before .before .before .read .ensures) in
     let e = c .put-refusal .ensures in
-    let t = text-there (c .before .before .before .before .before .before .before .before .before .args .text .now) (refusedLine (refusalAnswer r .number)) (e .0) (e .1) (omega (arith, refused-most r, c .before .put-refusal-arg .given .0 .1)) in (
-      counts _ (t .0),
-      record {
-        unread = λ x q. t .1 ∙ ap (λ (a : Answer). refusedLine (a .number)) (read .refusing x q .0);
-        listed = λ q. absurd (omega (arith, refusal-small r, ap (λ (a : Answer). a .number) (read .answering q .0)));
-      },
-    )
+    let t = text-stands (Listed book) (c .before .before .before .before .before .before .before .before .before .args .text .now) (refusedLine (refusalAnswer r .number)) (e .0) (e .1) (omega (arith, refused-most r, c .before .put-refusal-arg .given .0 .1)) (record {
+      unread = λ x q. ap (λ (a : Answer). refusedLine (a .number)) (read .refusing x q .0);
+      listed = λ q. absurd (omega (arith, refusal-small r, ap (λ (a : Answer). a .number) (read .answering q .0)));
+    }) in
+    (counts _ (t .inside), t)
 
 returns-2 : tie.Need-returns-2
 unfolding limit
 returns-2 c =
     let x = words (c .before .before .before) in
-    let e = c .list-words .ensures in (
-      counts _ (e .0),
+    let t = c .list-words .ensures in (
+      counts _ (t .inside),
       record {
-        unread = λ r q. absurd (let z : _≡_ {A = ℕ} 0 1 = cc in omega arith);
-        listed = λ q. subst (λ (w : List ℕ). WordsListed w (take (c .list-words .result) (c .list-words .last .1 .1 .0))) (x .there) (e .1);
+        inside = t .inside;
+        text = record {
+          unread = λ r q. absurd (let z : _≡_ {A = ℕ} 0 1 = cc in omega arith);
+          listed = λ q. subst (λ (w : List ℕ). WordsListed w (take (c .list-words .result) (c .list-words .last .1 .1 .0))) (x .there) (t .text);
+        };
+        behind = t .behind;
       },
     )
 

@@ -9,7 +9,7 @@ use lib.Seq.{sets}
 use Rattle.sums.specs.Columns.{at}
 use Rattle.book.specs.Bytes.{each}
 use Rattle.book.specs.ListLaws.{sets-length, each-step, each-stored}
-use Rattle.listing.specs.Text.{line, lines}
+use Rattle.listing.specs.Text.{line, lines, lineMost}
 use Rattle.listing.specs.TextLaws.{line-most}
 use Rattle.listing.proofs.put_lines.Statement.{statement}
 use Rattle.listing.proofs.put_lines.Tie as tie
@@ -23,7 +23,7 @@ linesFrom order figures p = each (lineAt order figures) p (length order - p)
 
 abbrev Inv-loop : tie.InvT-loop
 Inv-loop order figures text₀ end₀ p₀ text end p =
-    (p ≤ length order) × (end ≤ 22 * p) × (end + length (linesFrom order figures p) ≡ length (lines order figures)) × (sets text end (linesFrom order figures p) ≡ sets text₀ 0 (lines order figures))
+    (p ≤ length order) × (end ≤ lineMost * p) × (end + length (linesFrom order figures p) ≡ length (lines order figures)) × (sets text end (linesFrom order figures p) ≡ sets text₀ 0 (lines order figures))
 
 abbrev μ-loop : tie.MeasureT-loop
 μ-loop order figures text₀ end₀ p₀ text end p = length order - p

@@ -8,8 +8,8 @@ use lib.ListN.{length, set, length-set}
 use lib.Seq.{sets, length-sets}
 use Rattle.intake.specs.Answer.{Answer, refusalAnswer}
 use Rattle.intake.specs.Told.{refusal-small}
-use Rattle.listing.specs.Text.{decimal}
-use Rattle.listing.specs.TextLaws.{decimal-length, word, refused-length, refused-stored}
+use Rattle.listing.specs.Text.{decimal, word}
+use Rattle.listing.specs.TextLaws.{decimal-length, refused-length, refused-stored}
 use Rattle.listing.proofs.put_refusal.Statement.{statement}
 use Rattle.listing.proofs.put_refusal.Tie as tie
 

@@ -83,7 +83,7 @@ fn program() -> PathBuf {
     };
     assert!(
         path.is_file(),
-        "{} is missing: run `rt build book_main` at the project's root first, or set {BOOK_MAIN} \
+        "{} is missing: run `rt check book_main` at the project's root first, or set {BOOK_MAIN} \
          to the path of the program",
         path.display()
     );
