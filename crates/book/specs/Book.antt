@@ -49,5 +49,6 @@ count book = fromHigh (part book 0 2)
 abbrev pub wrongOffset : List ℕ → Mask
 wrongOffset book i = not (eqb (fromHigh (part book (2 + 4 * i) 4)) (offset (count book) i))
 
+-- the words of a book, of as many rows as it says
 abbrev pub wordsOf : List ℕ → List ℕ
 wordsOf book = wordsIn book (count book)

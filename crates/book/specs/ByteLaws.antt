@@ -29,6 +29,11 @@ low-from (b ∷ bytes) h =
     let byte : (b + 256 * fromLow bytes) % 256 ≡ b = omega (arith, h 0) in
     ap₂ (λ (x : ℕ) (l : List ℕ). x ∷ l) byte (ap (low (length bytes)) rest ∙ low-from bytes (λ i. h (suc i)))
 
+-- what bytes stand for fits
+pub from-low-fits : (bytes : List ℕ) → Below 256 bytes → fromLow bytes < 256 ^ length bytes
+from-low-fits [] h = lit< tt
+from-low-fits (b ∷ bytes) h = omega (arith, h 0, from-low-fits bytes (λ i. h (suc i)), pow-suc 256 (length bytes))
+
 -- ---- the law of high byte first: the same from the other end
 
 module _ (most : ℕ) where

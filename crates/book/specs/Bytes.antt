@@ -32,10 +32,10 @@ abbrev pub each : (ℕ → List ℕ) → (i k : ℕ) → List ℕ
 each f i zero = []
 each f i (suc k) = f i ++ each f (i + 1) k
 
--- a list whose first places others take: what stood behind them stays
-abbrev pub over : List ℕ → List ℕ → List ℕ
-over xs list = xs ++ drop (length xs) list
+-- entries laid on the first places of a list: what stands behind them stays
+abbrev pub laidOn : List ℕ → List ℕ → List ℕ
+laidOn xs list = xs ++ drop (length xs) list
 
--- entries that fit a byte, and a word
-abbrev pub Below : ℕ → List ℕ → Type 0
-Below most l = (i : ℕ) → at l i < most
+-- every entry is below a bound: 256 for bytes, 4,294,967,296 for words
+abbrev pub Below : (bound : ℕ) → List ℕ → Type 0
+Below bound l = (i : ℕ) → at l i < bound

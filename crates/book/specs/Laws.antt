@@ -14,13 +14,13 @@ use Rattle.sums.specs.Masks.{at, nowhere, lowest}
 use Rattle.sums.specs.Columns.{at as entry}
 use Rattle.licence.specs.Limit.{limit}
 use Rattle.intake.specs.Words.{rows}
-use Rattle.intake.specs.Answer.{Answer, answer, refused, fine, refuseIf, refuseAt}
+use Rattle.intake.specs.Answer.{Answer, answer, refused, fine, refuseIf}
 use Rattle.intake.specs.Refusals.{shapeRefusal}
-use Rattle.intake.specs.Laws.{then-fine, if-fine, at-fine, shaped, whole-words}
-use Rattle.book.specs.Bytes.{low, high, fromHigh, part, over}
+use Rattle.intake.specs.Laws.{then-fine, if-fine, at-fine, shaped, whole-words, by-six, shape-none}
+use Rattle.book.specs.Bytes.{low, high, fromHigh, part, laidOn}
 use Rattle.book.specs.Book.{offset, size, offsets, bodies, bookOf, wordAt, wordsIn, wordsOf, count, wrongOffset}
-use Rattle.book.specs.Replies.{readRefusal, writeRefusal}
-use Rattle.book.specs.ListLaws.{sets-append, sets-over, each-length}
+use Rattle.book.specs.Replies.{bookRefusal, readRefusal, writeRefusal}
+use Rattle.book.specs.ListLaws.{sets-append, sets-laid, each-length}
 
 -- ---- lengths
 
@@ -40,18 +40,18 @@ words-length book n = each-length (λ m. wordAt book n m ∷ []) 1 (λ m. refl) 
 
 -- ---- the words, and the three parts, stored one after the other
 
-pub words-stored : (book words : List ℕ) {n : ℕ} → n ≡ count book → 6 * count book ≤ length words → sets words 0 (wordsIn book n) ≡ over (wordsOf book) words
-words-stored book words {n} e l = ap (λ (k : ℕ). sets words 0 (wordsIn book k)) e ∙ sets-over words (wordsOf book) (omega (arith, words-length book (count book)))
+pub words-stored : (book words : List ℕ) {n : ℕ} → n ≡ count book → 6 * count book ≤ length words → sets words 0 (wordsIn book n) ≡ laidOn (wordsOf book) words
+words-stored book words {n} e l = ap (λ (k : ℕ). sets words 0 (wordsIn book k)) e ∙ sets-laid words (wordsOf book) (omega (arith, words-length book (count book)))
 
 pub book-stored : (words book : List ℕ) {n start : ℕ} → n ≡ rows words → start ≡ offset n 0 → length (bookOf words) ≤ length book
-    → sets (sets (sets book 0 (high 2 n)) 2 (offsets n)) start (bodies words) ≡ over (bookOf words) book
+    → sets (sets (sets book 0 (high 2 n)) 2 (offsets n)) start (bodies words) ≡ laidOn (bookOf words) book
 book-stored words book {n} {start} e s l =
     let there : start ≡ 2 + length (offsets n) = omega (arith, s, offsets-length n) in
     ap (λ (p : ℕ). sets (sets (sets book 0 (high 2 n)) 2 (offsets n)) p (bodies words)) there
     ∙ sym (sets-append (sets book 0 (high 2 n)) 2 (offsets n) (bodies words))
     ∙ sym (sets-append book 0 (high 2 n) (offsets n ++ bodies words))
     ∙ ap (λ (k : ℕ). sets book 0 (high 2 k ++ offsets k ++ bodies words)) e
-    ∙ sets-over book (bookOf words) l
+    ∙ sets-laid book (bookOf words) l
 
 -- ---- the checks of writing
 
@@ -80,65 +80,88 @@ both-false : (a b : Bool) → (a || b) ≡ false → (a ≡ false) × (b ≡ fal
 both-false false b e = (refl, e)
 both-false true b e = absurd (let z : _≡_ {A = ℕ} 0 1 = cc in omega arith)
 
-module _ (book : List ℕ) (room : ℕ) where
-  pub read-short : length book < 2 → readRefusal book room ≡ refused (answer 20 0 0)
-  unfolding readRefusal
-  read-short l = rw (lt-ltb (length book) 2 l)
+module _ (book : List ℕ) where
+  pub book-short : length book < 2 → bookRefusal book ≡ refused (answer 20 0 0)
+  unfolding bookRefusal
+  book-short l = rw (lt-ltb (length book) 2 l)
 
   module _ (long : 2 ≤ length book) where
-    pub read-empty : count book ≡ 0 → readRefusal book room ≡ refused (answer 20 0 0)
-    unfolding readRefusal
-    read-empty z = rw (le-ltb (length book) 2 long, eq-eqb (count book) 0 z)
+    pub book-empty : count book ≡ 0 → bookRefusal book ≡ refused (answer 20 0 0)
+    unfolding bookRefusal
+    book-empty z = rw (le-ltb (length book) 2 long, eq-eqb (count book) 0 z)
 
     module _ (some : count book ≡ 0 → ⊥) where
-      pub read-many : limit < count book → readRefusal book room ≡ refused (answer 2 0 0)
-      unfolding readRefusal
-      read-many l = rw (le-ltb (length book) 2 long, ne-eqb (count book) 0 some, lt-ltb limit (count book) l)
+      pub book-many : limit < count book → bookRefusal book ≡ refused (answer 2 0 0)
+      unfolding bookRefusal
+      book-many l = rw (le-ltb (length book) 2 long, ne-eqb (count book) 0 some, lt-ltb limit (count book) l)
 
       module _ (few : count book ≤ limit) where
-        pub read-length : (length book ≡ size (count book) → ⊥) → readRefusal book room ≡ refused (answer 21 0 0)
-        unfolding readRefusal
-        read-length h = rw (le-ltb (length book) 2 long, ne-eqb (count book) 0 some, le-ltb limit (count book) few, ne-eqb (length book) (size (count book)) h)
+        pub book-other : (length book ≡ size (count book) → ⊥) → bookRefusal book ≡ refused (answer 21 0 0)
+        unfolding bookRefusal
+        book-other h = rw (le-ltb (length book) 2 long, ne-eqb (count book) 0 some, le-ltb limit (count book) few, ne-eqb (length book) (size (count book)) h)
 
         module _ (whole : length book ≡ size (count book)) where
-          pub read-offset : {i : ℕ} → lowest (count book) (wrongOffset book) ≡ at i → readRefusal book room ≡ refused (answer 22 i 0)
-          unfolding readRefusal
-          read-offset h = rw (le-ltb (length book) 2 long, ne-eqb (count book) 0 some, le-ltb limit (count book) few, eq-eqb (length book) (size (count book)) whole, h)
+          pub book-offset : {i : ℕ} → lowest (count book) (wrongOffset book) ≡ at i → bookRefusal book ≡ refused (answer 22 i 0)
+          unfolding bookRefusal
+          book-offset h = rw (le-ltb (length book) 2 long, ne-eqb (count book) 0 some, le-ltb limit (count book) few, eq-eqb (length book) (size (count book)) whole, h)
 
-          module _ (right : lowest (count book) (wrongOffset book) ≡ nowhere) where
-            pub read-room : room < 6 * count book → readRefusal book room ≡ refused (answer 4 0 0)
-            unfolding readRefusal
-            read-room l = rw (le-ltb (length book) 2 long, ne-eqb (count book) 0 some, le-ltb limit (count book) few, eq-eqb (length book) (size (count book)) whole, right, lt-ltb room (6 * count book) l)
+          pub book-none : lowest (count book) (wrongOffset book) ≡ nowhere → bookRefusal book ≡ fine
+          unfolding bookRefusal
+          book-none h = rw (le-ltb (length book) 2 long, ne-eqb (count book) 0 some, le-ltb limit (count book) few, eq-eqb (length book) (size (count book)) whole, h)
 
-            pub read-none : 6 * count book ≤ room → readRefusal book room ≡ fine
-            unfolding readRefusal
-            read-none l = rw (le-ltb (length book) 2 long, ne-eqb (count book) 0 some, le-ltb limit (count book) few, eq-eqb (length book) (size (count book)) whole, right, le-ltb room (6 * count book) l)
-
-  -- a book that is read
-  pub record Readable : Type 0 where
+  -- what is a book
+  pub record IsBook : Type 0 where
     pub long : 2 ≤ length book
     pub some : count book ≡ 0 → ⊥
     pub few : count book ≤ limit
     pub whole : length book ≡ size (count book)
     pub right : lowest (count book) (wrongOffset book) ≡ nowhere
-    pub roomy : 6 * count book ≤ room
 
-  pub readable : readRefusal book room ≡ fine → Readable
-  unfolding readRefusal
-  readable e =
+  pub is-book : bookRefusal book ≡ fine → IsBook
+  unfolding bookRefusal
+  is-book e =
       let a = then-fine (refuseIf (ltb (length book) 2 || eqb (count book) 0) (answer 20 0 0)) _ e in
       let b = then-fine (refuseIf (ltb limit (count book)) (answer 2 0 0)) _ (a .1) in
       let c = then-fine (refuseIf (not (eqb (length book) (size (count book)))) (answer 21 0 0)) _ (b .1) in
-      let d = then-fine (refuseAt (lowest (count book) (wrongOffset book)) (λ i. answer 22 i 0)) _ (c .1) in
       let start = both-false (ltb (length book) 2) (eqb (count book) 0) (if-fine (ltb (length book) 2 || eqb (count book) 0) _ (a .0)) in
       record {
         long = ltb-false (length book) 2 (start .0);
         some = eqb-false (count book) 0 (start .1);
         few = ltb-false limit (count book) (if-fine (ltb limit (count book)) _ (b .0));
         whole = eqb-true (length book) (size (count book)) (not-false (eqb (length book) (size (count book))) (if-fine (not (eqb (length book) (size (count book)))) _ (c .0)));
-        right = at-fine (lowest (count book) (wrongOffset book)) _ (d .0);
-        roomy = ltb-false room (6 * count book) (if-fine (ltb room (6 * count book)) _ (d .1));
+        right = at-fine (lowest (count book) (wrongOffset book)) _ (c .1);
       }
+
+-- its words have the shape of a table
+pub words-rows : (book : List ℕ) → rows (wordsOf book) ≡ count book
+words-rows book = omega (arith, words-length book (count book))
+
+pub words-shape : (book : List ℕ) → bookRefusal book ≡ fine → shapeRefusal (wordsOf book) ≡ fine
+words-shape book e =
+    let l = words-length book (count book) in
+    shape-none (wordsOf book) (by-six (wordsOf book) (λ z. is-book book e .some (omega (arith, l))) (omega (arith, l))) (omega (arith, l, is-book book e .few))
+
+-- a book, and the room for its words
+module _ (book : List ℕ) (room : ℕ) where
+  pub read-no-book : {a : Answer} → bookRefusal book ≡ refused a → readRefusal book room ≡ refused a
+  unfolding readRefusal
+  read-no-book e = rw e
+
+  pub read-4 : bookRefusal book ≡ fine → room < 6 * count book → readRefusal book room ≡ refused (answer 4 0 0)
+  unfolding readRefusal
+  read-4 e l = rw (e, lt-ltb room (6 * count book) l)
+
+  pub read-none : bookRefusal book ≡ fine → 6 * count book ≤ room → readRefusal book room ≡ fine
+  unfolding readRefusal
+  read-none e l = rw (e, le-ltb room (6 * count book) l)
+
+  -- with room for the words of any book, every book is read
+  pub book-read : 6 * limit ≤ room → bookRefusal book ≡ fine → readRefusal book room ≡ fine
+  book-read l e = read-none e (omega (arith, is-book book e .few))
+
+  pub readable : readRefusal book room ≡ fine → (bookRefusal book ≡ fine) × (6 * count book ≤ room)
+  unfolding readRefusal
+  readable e = let a = then-fine (bookRefusal book) _ e in (a .0, ltb-false room (6 * count book) (if-fine (ltb room (6 * count book)) _ (a .1)))
 
 -- ---- one offset
 
@@ -148,8 +171,8 @@ offset-wrong book i h = rw (ne-eqb (fromHigh (part book (2 + 4 * i) 4)) (offset 
 pub offset-right : (book : List ℕ) (i : ℕ) → fromHigh (part book (2 + 4 * i) 4) ≡ offset (count book) i → Is (wrongOffset book i) → ⊥
 offset-right book i e = rw (eq-eqb (fromHigh (part book (2 + 4 * i) 4)) (offset (count book) i) e) (λ x. x)
 
-pub wrong-offset : (book : List ℕ) (i : ℕ) → (Is (wrongOffset book i) → ⊥) → fromHigh (part book (2 + 4 * i) 4) ≡ offset (count book) i
-wrong-offset book i h = go (ℕ-discrete (fromHigh (part book (2 + 4 * i) 4)) (offset (count book) i))
+pub offset-is : (book : List ℕ) (i : ℕ) → (Is (wrongOffset book i) → ⊥) → fromHigh (part book (2 + 4 * i) 4) ≡ offset (count book) i
+offset-is book i h = go (ℕ-discrete (fromHigh (part book (2 + 4 * i) 4)) (offset (count book) i))
   where
     go : Dec (fromHigh (part book (2 + 4 * i) 4) ≡ offset (count book) i) → fromHigh (part book (2 + 4 * i) 4) ≡ offset (count book) i
     go (yes e) = e

@@ -1,4 +1,4 @@
--- Lists put together and cut up: laws of `sets`, `part`, `each` and `over`.
+-- Lists put together and cut up: laws of `sets`, `part`, `each` and `laidOn`.
 -- Assumes nothing.
 use Prim.Native.Nat.{ℕ, zero, suc, _+_, _*_, _-_, _≤_, _<_}
 use native.Mathlib.Nat.{le-of-suc-le-suc}
@@ -8,7 +8,7 @@ use mathlib.Core.List.{List, [], _∷_, _++_, append-assoc}
 use lib.ListN.{length, take, drop, set, length-append, length-drop, drop-of-length-le}
 use lib.Seq.{sets, sets-eq, length-sets, set-comm, take-suc, drop-cons, getD-drop, drop-drop, take-add, take-at, drop-append-add, length-take-le}
 use Rattle.sums.specs.Columns.{at}
-use Rattle.book.specs.Bytes.{part, each, over, Below}
+use Rattle.book.specs.Bytes.{part, each, laidOn, Below}
 
 -- ---- stores
 
@@ -28,12 +28,12 @@ sets-last l i (x ∷ xs) a =
 pub sets-length : (l l′ : List ℕ) (i i′ : ℕ) (xs xs′ : List ℕ) → sets l i xs ≡ sets l′ i′ xs′ → length l ≡ length l′
 sets-length l l′ i i′ xs xs′ e = sym (length-sets l i xs) ∙ ap length e ∙ length-sets l′ i′ xs′
 
--- stored from the start, they are laid over the list
-pub sets-over : (l xs : List ℕ) → length xs ≤ length l → sets l 0 xs ≡ over xs l
-sets-over l xs h = let z : 0 + length xs ≡ length xs = omega arith in sets-eq xs l 0 (omega arith) ∙ ap (λ (k : ℕ). xs ++ drop k l) z
+-- stored from the start, they are laid on the list
+pub sets-laid : (l xs : List ℕ) → length xs ≤ length l → sets l 0 xs ≡ laidOn xs l
+sets-laid l xs h = let z : 0 + length xs ≡ length xs = omega arith in sets-eq xs l 0 (omega arith) ∙ ap (λ (k : ℕ). xs ++ drop k l) z
 
-pub take-over : (l xs : List ℕ) {n : ℕ} → length xs ≡ n → take n (over xs l) ≡ xs
-take-over l xs {n} e = take-at xs (drop (length xs) l) n e
+pub take-laid : (l xs : List ℕ) {n : ℕ} → length xs ≡ n → take n (laidOn xs l) ≡ xs
+take-laid l xs {n} e = take-at xs (drop (length xs) l) n e
 
 -- ---- parts
 
@@ -124,3 +124,8 @@ pub each-at : (v : ℕ → ℕ) (i k j : ℕ) → j < k → at (each (λ m. v m 
 each-at v i zero j h = absurd (omega arith)
 each-at v i (suc k) zero h = ap v (omega arith)
 each-at v i (suc k) (suc j) h = each-at v (i + 1) k j (le-of-suc-le-suc h) ∙ ap v (omega arith)
+
+pub each-below : (v : ℕ → ℕ) (i k bound : ℕ) → 0 < bound → ((m : ℕ) → m < i + k → v m < bound) → Below bound (each (λ m. v m ∷ []) i k)
+each-below v i zero bound z h j = z
+each-below v i (suc k) bound z h zero = h i (omega arith)
+each-below v i (suc k) bound z h (suc j) = each-below v (i + 1) k bound z (λ m l. h m (omega arith)) j

@@ -6,18 +6,20 @@ use native.Mathlib.Decide.{ℕ-discrete, decLt}
 use native.Mathlib.Omega.{arith}
 use mathlib.Core.Path.{_≡_, refl, sym, ap, _∙_}
 use mathlib.Core.Bool.{cond}
-use mathlib.Core.List.{List}
+use mathlib.Core.List.{List, [], _∷_}
 use lib.ListN.{length, take}
 use lib.Seq.{take-take, length-take-le}
-use lib.Dec.{eqb, lit≤}
+use lib.Dec.{T as Is, eqb, lit≤}
 use Rattle.licence.specs.Limit.{limit}
+use Rattle.order.specs.Orders.{mem}
+use Rattle.intake.specs.Refusals.{shapeRefusal}
 use Rattle.intake.specs.Answer.{Answer, answer, refused}
 use Rattle.intake.specs.Laws.{meet, replied-one}
-use Rattle.intake.specs.Told.{toldRefusal, told-refusal, not-refusal, Small, then-small, if-small, at-small, wider-small, number-small, shape-small}
+use Rattle.intake.specs.Told.{toldRefusal, told-refusal, not-refusal, Numbers, number-has, then-numbers, if-numbers, at-numbers, Small, wider-small, shape-small}
 use Rattle.book.specs.Bytes.{fromHigh}
 use Rattle.book.specs.Book.{size, count}
-use Rattle.book.specs.Replies.{readingAnswer, writingAnswer, readRefusal, writeRefusal, BookRead, BookWritten}
-use Rattle.book.specs.Laws.{read-empty, read-many, read-length}
+use Rattle.book.specs.Replies.{readingAnswer, writingAnswer, bookRefusal, readRefusal, writeRefusal, BookRead, BookWritten}
+use Rattle.book.specs.Laws.{book-empty, book-many, book-other}
 use Rattle.book.specs.declared.Reading.{Reading}
 use Rattle.book.specs.declared.Reading.the-variants.{Rows, Refused}
 use Rattle.book.specs.declared.Writing.{Writing}
@@ -33,15 +35,20 @@ abbrev pub OneWriting : Type 0
 OneWriting = (words before after after′ : List ℕ) (r r′ : Writing)
     → BookWritten words before after (writingAnswer r) → BookWritten words before after′ (writingAnswer r′) → (r ≡ r′) × (after ≡ after′)
 
--- A refusal of reading has a number from 1 to 22, one of writing from 1 to 4: none is mistaken for an answer.
-abbrev pub RefusedSmall : Type 0
-RefusedSmall = ((book : List ℕ) (room : ℕ) (r : Answer) → readRefusal book room ≡ refused r → (1 ≤ r .number) × (r .number ≤ 22))
-    × ((words : List ℕ) (room : ℕ) (r : Answer) → writeRefusal words room ≡ refused r → (1 ≤ r .number) × (r .number ≤ 4))
+-- one of these numbers
+abbrev pub OneOf : List ℕ → ℕ → Type 0
+OneOf numbers n = Is (mem numbers n)
+
+-- Reading refuses by 20, 2, 21, 22 and 4, what is no book by the first four of them, and writing by 1, 2 and 4.
+abbrev pub RefusedBy : Type 0
+RefusedBy = ((book : List ℕ) (room : ℕ) (r : Answer) → readRefusal book room ≡ refused r → OneOf (20 ∷ 2 ∷ 21 ∷ 22 ∷ 4 ∷ []) (r .number))
+    × ((book : List ℕ) (r : Answer) → bookRefusal book ≡ refused r → OneOf (20 ∷ 2 ∷ 21 ∷ 22 ∷ []) (r .number))
+    × ((words : List ℕ) (room : ℕ) (r : Answer) → writeRefusal words room ≡ refused r → OneOf (1 ∷ 2 ∷ 4 ∷ []) (r .number))
 
 -- Of an input that is longer than any book, any first bytes that are decide: they are refused as the whole is.
 abbrev pub FirstBytesDecide : Type 0
-FirstBytesDecide = (book : List ℕ) (room k : ℕ) → size limit < k → k ≤ length book
-    → (r : Answer) × (readRefusal (take k book) room ≡ refused r) × (readRefusal book room ≡ refused r)
+FirstBytesDecide = (input : List ℕ) (k : ℕ) → size limit < k → k ≤ length input
+    → (r : Answer) × (bookRefusal (take k input) ≡ refused r) × (bookRefusal input ≡ refused r)
 
 -- ---- the proofs
 
@@ -79,27 +86,41 @@ one-writing words before after after′ r r′ x y =
     let one = one-written words before after after′ (writingAnswer r) (writingAnswer r′) x y in
     (sym (told-writing r) ∙ ap toldWriting (one .0) ∙ told-writing r′, one .1)
 
+-- the numbers of the checks
+book-by : (book : List ℕ) → Numbers (OneOf (20 ∷ 2 ∷ 21 ∷ 22 ∷ [])) (bookRefusal book)
+unfolding bookRefusal mem
+book-by book = search (then-numbers, if-numbers, at-numbers) depth 10
+
+read-by : (book : List ℕ) (room : ℕ) → Numbers (OneOf (20 ∷ 2 ∷ 21 ∷ 22 ∷ 4 ∷ [])) (readRefusal book room)
+unfolding readRefusal bookRefusal mem
+read-by book room = search (then-numbers, if-numbers, at-numbers) depth 10
+
+write-by : (words : List ℕ) (room : ℕ) → Numbers (OneOf (1 ∷ 2 ∷ 4 ∷ [])) (writeRefusal words room)
+unfolding writeRefusal shapeRefusal mem
+write-by words room = search (then-numbers, if-numbers) depth 10
+
+pub refused-by : RefusedBy
+refused-by = ((λ book room r e. number-has (read-by book room) e), (λ book r e. number-has (book-by book) e), (λ words room r e. number-has (write-by words room) e))
+
+-- so none is mistaken for an answer
 pub read-small : (book : List ℕ) (room : ℕ) → Small 22 (readRefusal book room)
-unfolding readRefusal
-read-small book room = search (then-small, if-small, at-small, lit≤) depth 9
+unfolding readRefusal bookRefusal
+read-small book room = search (then-numbers, if-numbers, at-numbers, lit≤) depth 10
 
 pub write-small : (words : List ℕ) (room : ℕ) → Small 4 (writeRefusal words room)
 unfolding writeRefusal
-write-small words room = then-small (wider-small (lit≤ tt) (shape-small words)) (search (if-small, lit≤))
-
-pub refused-small : RefusedSmall
-refused-small = ((λ book room r e. number-small (read-small book room) e), (λ words room r e. number-small (write-small words room) e))
+write-small words room = then-numbers (wider-small (lit≤ tt) (shape-small words)) (search (if-numbers, lit≤))
 
 -- what is longer than any book is refused by its count alone
-too-long : (room n : ℕ) → (r : Answer) × ((book : List ℕ) → count book ≡ n → size limit < length book → readRefusal book room ≡ refused r)
-too-long room n = go (ℕ-discrete n 0) (decLt limit n)
+too-long : (n : ℕ) → (r : Answer) × ((input : List ℕ) → count input ≡ n → size limit < length input → bookRefusal input ≡ refused r)
+too-long n = go (ℕ-discrete n 0) (decLt limit n)
   where
-    go : Dec (n ≡ 0) → Dec (limit < n) → (r : Answer) × ((book : List ℕ) → count book ≡ n → size limit < length book → readRefusal book room ≡ refused r)
-    go (yes z) m = (answer 20 0 0, λ book e l. read-empty book room (omega arith) (e ∙ z))
-    go (no z) (yes m) = (answer 2 0 0, λ book e l. read-many book room (omega arith) (λ q. z (sym e ∙ q)) (omega (arith, e)))
-    go (no z) (no m) = (answer 21 0 0, λ book e l. read-length book room (omega arith) (λ q. z (sym e ∙ q)) (omega (arith, e)) (λ w. omega (arith, e, w)))
+    go : Dec (n ≡ 0) → Dec (limit < n) → (r : Answer) × ((input : List ℕ) → count input ≡ n → size limit < length input → bookRefusal input ≡ refused r)
+    go (yes z) m = (answer 20 0 0, λ input e l. book-empty input (omega arith) (e ∙ z))
+    go (no z) (yes m) = (answer 2 0 0, λ input e l. book-many input (omega arith) (λ q. z (sym e ∙ q)) (omega (arith, e)))
+    go (no z) (no m) = (answer 21 0 0, λ input e l. book-other input (omega arith) (λ q. z (sym e ∙ q)) (omega (arith, e)) (λ w. omega (arith, e, w)))
 
 pub first-bytes-decide : FirstBytesDecide
-first-bytes-decide book room k l h =
-    let long = too-long room (count book) in
-    (long .0, long .1 (take k book) (ap fromHigh (take-take 2 k book (omega arith))) (omega (arith, length-take-le k book h)), long .1 book refl (omega arith))
+first-bytes-decide input k l h =
+    let long = too-long (count input) in
+    (long .0, long .1 (take k input) (ap fromHigh (take-take 2 k input (omega arith))) (omega (arith, length-take-le k input h)), long .1 input refl (omega arith))

@@ -11,7 +11,7 @@ use Rattle.licence.specs.Limit.{limit}
 use Rattle.intake.specs.Words.{rows}
 use Rattle.intake.specs.Answer.{Answer, answer, refusalAnswer, Check, refuseIf, refuseAt, _then_, Replied}
 use Rattle.intake.specs.Refusals.{shapeRefusal}
-use Rattle.book.specs.Bytes.{over}
+use Rattle.book.specs.Bytes.{laidOn}
 use Rattle.book.specs.Book.{size, bookOf, count, wrongOffset, wordsOf}
 use Rattle.book.specs.declared.Reading.{Reading}
 use Rattle.book.specs.declared.Reading.the-variants.{Rows, Refused}
@@ -27,13 +27,19 @@ abbrev pub writingAnswer : Writing → Answer
 writingAnswer (Bytes k) = answer 104 k 0
 writingAnswer (Unwritten r) = refusalAnswer r
 
--- '20 under two bytes or a count of 0; 2 a count over the row limit; 21 any other length; 22 a wrong offset, with the first such row; 4 no room'
-unfoldable pub readRefusal : (book : List ℕ) (room : ℕ) → Check
-readRefusal book room =
+-- these bytes are no book: '20 under two bytes or a count of 0; 2 a count over the row limit; 21 any other length; 22 a wrong offset, with the first
+-- such row'
+unfoldable pub bookRefusal : List ℕ → Check
+bookRefusal book =
     refuseIf (ltb (length book) 2 || eqb (count book) 0) (answer 20 0 0)
     then refuseIf (ltb limit (count book)) (answer 2 0 0)
     then refuseIf (not (eqb (length book) (size (count book)))) (answer 21 0 0)
     then refuseAt (lowest (count book) (wrongOffset book)) (λ i. answer 22 i 0)
+
+-- and then '4 no room'
+unfoldable pub readRefusal : (book : List ℕ) (room : ℕ) → Check
+readRefusal book room =
+    bookRefusal book
     then refuseIf (ltb room (6 * count book)) (answer 4 0 0)
 
 -- 'The writer takes any words and refuses only by 1, 2 and 4'
@@ -46,10 +52,10 @@ writeRefusal words room =
 abbrev pub BookRead : (book before after : List ℕ) (a : Answer) → Type 0
 BookRead book before after a =
     Replied (readRefusal book (length before)) before after a
-    ((a ≡ readingAnswer (Rows (count book))) × (after ≡ over (wordsOf book) before))
+    ((a ≡ readingAnswer (Rows (count book))) × (after ≡ laidOn (wordsOf book) before))
 
 -- writing any words: the answer, and the lent bytes before and after
 abbrev pub BookWritten : (words before after : List ℕ) (a : Answer) → Type 0
 BookWritten words before after a =
     Replied (writeRefusal words (length before)) before after a
-    ((a ≡ writingAnswer (Bytes (size (rows words)))) × (after ≡ over (bookOf words) before))
+    ((a ≡ writingAnswer (Bytes (size (rows words)))) × (after ≡ laidOn (bookOf words) before))

@@ -1,6 +1,6 @@
 -- 'What it makes the reader gives back, and the other way round.' The promises come first, their proofs below.
 -- Assumes nothing.
-use Prim.Native.Nat.{ℕ, _+_, _*_, _≤_, _<_}
+use Prim.Native.Nat.{ℕ, _+_, _*_, _^_, _≤_, _<_}
 use native.Mathlib.Omega.{arith}
 use mathlib.Core.Path.{_≡_, refl, sym, ap, ap₂, subst, _∙_}
 use mathlib.Core.List.{List, [], _∷_, _++_, append-nil}
@@ -14,32 +14,38 @@ use Rattle.licence.specs.Limit.{limit}
 use Rattle.intake.specs.Words.{rows}
 use Rattle.intake.specs.Answer.{Answer, answer, fine}
 use Rattle.intake.specs.Refusals.{shapeRefusal}
-use Rattle.intake.specs.Laws.{shaped, whole-words, some-words, by-six, shape-none}
+use Rattle.intake.specs.Laws.{shaped, whole-words, some-words}
 use Rattle.intake.specs.Told.{replied-fine}
-use Rattle.book.specs.Bytes.{low, high, fromLow, fromHigh, part, each, over, Below}
+use Rattle.book.specs.Bytes.{low, high, fromLow, fromHigh, part, each, laidOn, Below}
 use Rattle.book.specs.Book.{offset, size, offsets, bodies, bookOf, wordAt, wordsIn, wordsOf, count, wrongOffset}
-use Rattle.book.specs.Replies.{readRefusal, BookRead, BookWritten}
-use Rattle.book.specs.ByteLaws.{from-low, low-from, from-high, high-from}
-use Rattle.book.specs.ListLaws.{take-over, part-length, part-below, part-join, each-cong, each-part, each-parts, each-entries, each-at}
-use Rattle.book.specs.Laws.{offsets-length, book-length, words-length, writable, write-none, Readable, readable, read-none, offset-right, wrong-offset}
-use Rattle.book.specs.Outcome.{read-small, write-small}
+use Rattle.book.specs.Replies.{bookRefusal, BookRead, BookWritten}
+use Rattle.book.specs.ByteLaws.{from-low, low-from, from-low-fits, from-high, high-from}
+use Rattle.book.specs.ListLaws.{take-laid, part-length, part-below, part-join, each-cong, each-part, each-parts, each-entries, each-at, each-below}
+use Rattle.book.specs.Laws.{offsets-length, book-length, words-length, words-rows, words-shape, writable, write-none, IsBook, is-book, book-none, read-none, offset-right, offset-is}
+use Rattle.book.specs.Outcome.{write-small}
+use Rattle.book.specs.Read.{words-read}
 
 -- What was written is read back word for word, into any list that has room.
 abbrev pub ReadBack : Type 0
 ReadBack = (words before after : List ℕ) (k : ℕ) → Below 4294967296 words → BookWritten words before after (answer 104 k 0)
     → (list list′ : List ℕ) (a : Answer) → length words ≤ length list → BookRead (take k after) list list′ a
-    → (a ≡ answer 103 (rows words) 0) × (list′ ≡ over words list)
+    → (a ≡ answer 103 (rows words) 0) × (list′ ≡ laidOn words list)
 
 -- What was read is written again byte for byte, into any list that has room.
 abbrev pub WrittenAgain : Type 0
 WrittenAgain = (book before after : List ℕ) (n : ℕ) → Below 256 book → BookRead book before after (answer 103 n 0)
     → (list list′ : List ℕ) (a : Answer) → length book ≤ length list → BookWritten (take (6 * n) after) list list′ a
-    → (a ≡ answer 104 (length book) 0) × (list′ ≡ over book list)
+    → (a ≡ answer 104 (length book) 0) × (list′ ≡ laidOn book list)
 
--- The reader takes the books of words, and nothing else.
-abbrev pub BooksOnly : Type 0
-BooksOnly = (book : List ℕ) (room : ℕ) → Below 256 book → readRefusal book room ≡ fine
-    → (words : List ℕ) × (shapeRefusal words ≡ fine) × (book ≡ bookOf words)
+-- A book is just what is made of words that have the shape of a table; those that fit are found in it.
+abbrev pub BooksExactly : Type 0
+BooksExactly = ((words : List ℕ) → shapeRefusal words ≡ fine → bookRefusal (bookOf words) ≡ fine)
+    × ((book : List ℕ) → Below 256 book → bookRefusal book ≡ fine → (words : List ℕ) × (shapeRefusal words ≡ fine) × Below 4294967296 words × (book ≡ bookOf words))
+
+-- Where the contents say that a row starts, its six words stand.
+abbrev pub RowsThere : Type 0
+RowsThere = (words : List ℕ) → shapeRefusal words ≡ fine → (i f : ℕ) → i < rows words → f < 6
+    → part (bookOf words) (fromHigh (part (bookOf words) (2 + 4 * i) 4) + 4 * f) 4 ≡ low 4 (at words (6 * i + f))
 
 -- ---- a book of words, read
 
@@ -48,59 +54,51 @@ module _ (words : List ℕ) (shape : shapeRefusal words ≡ fine) where
   unfolding limit
   book-count = from-high 2 (rows words) (omega (arith, shaped words shape .few))
 
-  book-right : None (count (bookOf words)) (wrongOffset (bookOf words))
+  -- the offset of row i, and word m
+  book-start : (i : ℕ) → i < rows words → fromHigh (part (bookOf words) (2 + 4 * i) 4) ≡ offset (rows words) i
   unfolding limit
-  book-right i l =
+  book-start i l =
       let n = rows words in
-      let e : fromHigh (part (bookOf words) (2 + 4 * i) 4) ≡ offset n i =
       ap (λ (r : List ℕ). fromHigh (take 4 r)) (drop-append-add (high 2 n) (offsets n ++ bodies words) (4 * i))
-      ∙ ap fromHigh (each-part (λ k. high 4 (offset n k)) 4 (λ k. refl) 0 n i (bodies words) (omega (arith, book-count)) ∙ ap (λ (k : ℕ). high 4 (offset n k)) (omega arith))
-      ∙ from-high 4 (offset n i) (omega (arith, shaped words shape .few, book-count)) in
-      offset-right (bookOf words) i (e ∙ ap (λ (k : ℕ). offset k i) (sym book-count))
+      ∙ ap fromHigh (each-part (λ k. high 4 (offset n k)) 4 (λ k. refl) 0 n i (bodies words) l ∙ ap (λ (k : ℕ). high 4 (offset n k)) (omega arith))
+      ∙ from-high 4 (offset n i) (omega (arith, shaped words shape .few))
 
-  book-fine : (room : ℕ) → length words ≤ room → readRefusal (bookOf words) room ≡ fine
-  book-fine room l =
-      let whole = whole-words words (shaped words shape .whole) in
-      read-none (bookOf words) room
+  book-word : (p m : ℕ) → p ≡ offset (rows words) 0 + 4 * m → m < length words → part (bookOf words) p 4 ≡ low 4 (at words m)
+  book-word p m e l =
+      let n = rows words in
+      let there : p ≡ length (high 2 n ++ offsets n) + 4 * m = omega (arith, e, offsets-length n) in
+      ap (λ (q : ℕ). part (bookOf words) q 4) there
+      ∙ ap (take 4) (drop-append-add (high 2 n ++ offsets n) (bodies words) (4 * m))
+      ∙ ap (λ (r : List ℕ). part r (4 * m) 4) (sym (append-nil (bodies words)))
+      ∙ each-part (λ k. low 4 (at words k)) 4 (λ k. refl) 0 (length words) m [] l
+      ∙ ap (λ (k : ℕ). low 4 (at words k)) (omega arith)
+
+  book-right : None (count (bookOf words)) (wrongOffset (bookOf words))
+  book-right i l = offset-right (bookOf words) i (book-start i (omega (arith, book-count)) ∙ ap (λ (k : ℕ). offset k i) (sym book-count))
+
+  book-fine : bookRefusal (bookOf words) ≡ fine
+  book-fine =
+      book-none (bookOf words)
       (omega (arith, book-length words shape))
-      (λ z. some-words words (shaped words shape .whole) (omega (arith, whole, book-count)))
+      (λ z. some-words words (shaped words shape .whole) (omega (arith, whole-words words (shaped words shape .whole), book-count)))
       (omega (arith, book-count, shaped words shape .few))
       (book-length words shape ∙ ap size (sym book-count))
       (lowest-none (count (bookOf words)) (wrongOffset (bookOf words)) book-right)
-      (omega (arith, book-count, whole))
 
   module _ (fits : Below 4294967296 words) where
-    book-word : (m : ℕ) → m < length words → wordAt (bookOf words) (rows words) m ≡ at words m
-    book-word m l =
-        let n = rows words in
-        let there : offset n 0 + 4 * m ≡ length (high 2 n ++ offsets n) + 4 * m = omega (arith, offsets-length n) in
-        ap (λ (p : ℕ). fromLow (part (bookOf words) p 4)) there
-        ∙ ap (λ (r : List ℕ). fromLow (take 4 r)) (drop-append-add (high 2 n ++ offsets n) (bodies words) (4 * m))
-        ∙ ap (λ (r : List ℕ). fromLow (part r (4 * m) 4)) (sym (append-nil (bodies words)))
-        ∙ ap fromLow (each-part (λ k. low 4 (at words k)) 4 (λ k. refl) 0 (length words) m [] l ∙ ap (λ (k : ℕ). low 4 (at words k)) (omega arith))
-        ∙ from-low 4 (at words m) (fits m)
-
     book-words : wordsOf (bookOf words) ≡ words
     book-words =
         let all : 6 * rows words ≡ length words = omega (arith, whole-words words (shaped words shape .whole)) in
         ap (wordsIn (bookOf words)) book-count
         ∙ ap (λ (k : ℕ). each (λ m. wordAt (bookOf words) (rows words) m ∷ []) 0 k) all
-        ∙ each-cong (λ m. wordAt (bookOf words) (rows words) m ∷ []) (λ m. at words m ∷ []) 0 (length words) (λ m a b. ap (λ (x : ℕ). x ∷ []) (book-word m (omega arith)))
+        ∙ each-cong (λ m. wordAt (bookOf words) (rows words) m ∷ []) (λ m. at words m ∷ []) 0 (length words) (λ m a b. ap (λ (x : ℕ). x ∷ []) (ap fromLow (book-word _ m refl (omega arith)) ∙ from-low 4 (at words m) (fits m)))
         ∙ each-entries words 0 (length words) (omega arith)
 
 -- ---- the words of a book, written
 
-module _ (book : List ℕ) (room : ℕ) (bytes : Below 256 book) (fine-book : readRefusal book room ≡ fine) where
-  known : Readable book room
-  known = readable book room fine-book
-
-  words-rows : rows (wordsOf book) ≡ count book
-  words-rows = omega (arith, words-length book (count book))
-
-  words-shape : shapeRefusal (wordsOf book) ≡ fine
-  words-shape =
-      let l = words-length book (count book) in
-      shape-none (wordsOf book) (by-six (wordsOf book) (λ z. known .some (omega (arith, l))) (omega (arith, l))) (omega (arith, l, known .few))
+module _ (book : List ℕ) (bytes : Below 256 book) (fine-book : bookRefusal book ≡ fine) where
+  known : IsBook book
+  known = is-book book fine-book
 
   -- a part of the book is the bytes of the number that it stands for
   high-part : (p w : ℕ) → p + w ≤ length book → high w (fromHigh (part book p w)) ≡ part book p w
@@ -112,7 +110,7 @@ module _ (book : List ℕ) (room : ℕ) (bytes : Below 256 book) (fine-book : re
   words-offsets : offsets (count book) ≡ part book 2 (4 * count book)
   words-offsets =
       let n = count book in
-      each-cong (λ i. high 4 (offset n i)) (λ i. part book (2 + 4 * i) 4) 0 n (λ i a b. ap (high 4) (sym (wrong-offset book i (none-lowest n (wrongOffset book) (known .right) i (omega arith)))) ∙ high-part (2 + 4 * i) 4 (omega (arith, known .whole)))
+      each-cong (λ i. high 4 (offset n i)) (λ i. part book (2 + 4 * i) 4) 0 n (λ i a b. ap (high 4) (sym (offset-is book i (none-lowest n (wrongOffset book) (known .right) i (omega arith)))) ∙ high-part (2 + 4 * i) 4 (omega (arith, known .whole)))
       ∙ each-parts book 2 4 0 n
 
   words-bodies : bodies (wordsOf book) ≡ part book (2 + 4 * count book) (4 * (6 * count book))
@@ -129,7 +127,7 @@ module _ (book : List ℕ) (room : ℕ) (bytes : Below 256 book) (fine-book : re
       let n = count book in
       let behind : 2 + 4 * n ≡ 0 + (2 + 4 * n) = omega arith in
       let all : 2 + 4 * n + 4 * (6 * n) ≡ length book = omega (arith, known .whole) in
-      ap (λ (k : ℕ). high 2 k ++ offsets k ++ bodies (wordsOf book)) words-rows
+      ap (λ (k : ℕ). high 2 k ++ offsets k ++ bodies (wordsOf book)) (words-rows book)
       ∙ ap (λ (l : List ℕ). l ++ offsets n ++ bodies (wordsOf book)) (high-part 0 2 (omega (arith, known .long)))
       ∙ ap₂ (λ (l m : List ℕ). part book 0 2 ++ l ++ m) words-offsets words-bodies
       ∙ ap (λ (l : List ℕ). l ++ part book (2 + 4 * n) (4 * (6 * n))) (part-join book 0 2 (4 * n))
@@ -138,28 +136,40 @@ module _ (book : List ℕ) (room : ℕ) (bytes : Below 256 book) (fine-book : re
       ∙ ap (λ (k : ℕ). take k book) all
       ∙ take-length book
 
+  words-fit : Below 4294967296 (wordsOf book)
+  words-fit =
+      let n = count book in
+      each-below (wordAt book n) 0 (6 * n) 4294967296 (lit< tt)
+      (λ m l.
+      let word = part book (offset n 0 + 4 * m) 4 in
+      let four = part-length book (offset n 0 + 4 * m) 4 (omega (arith, known .whole)) in
+      subst (λ (w : ℕ). fromLow word < 256 ^ w) four (from-low-fits word (part-below 256 book (offset n 0 + 4 * m) 4 (lit< tt) bytes)))
+
 -- ---- the proofs
 
 pub read-back : ReadBack
 read-back words before after k fits w list list′ a roomy r =
-    let e = writable words (length before) (replied-fine (write-small words (length before)) w (lit≤ tt)) in
-    let made = w .answering (replied-fine (write-small words (length before)) w (lit≤ tt)) in
-    let bytes : length (bookOf words) ≡ k = book-length words (e .0) ∙ sym (ap (λ (x : Answer). x .first) (made .0)) in
-    let there : take k after ≡ bookOf words = ap (take k) (made .1) ∙ take-over before (bookOf words) bytes in
-    let told = subst (λ (b : List ℕ). BookRead b list list′ a) there r .answering (book-fine words (e .0) (length list) roomy) in
-    (told .0 ∙ ap (λ (n : ℕ). answer 103 n 0) (book-count words (e .0)), told .1 ∙ ap (λ (l : List ℕ). over l list) (book-words words (e .0) fits))
+    let written = replied-fine (write-small words (length before)) w (lit≤ tt) in
+    let shape = writable words (length before) written .0 in
+    let made = w .answering written in
+    let bytes : length (bookOf words) ≡ k = book-length words shape ∙ sym (ap (λ (x : Answer). x .first) (made .0)) in
+    let there : take k after ≡ bookOf words = ap (take k) (made .1) ∙ take-laid before (bookOf words) bytes in
+    let room : 6 * count (bookOf words) ≤ length list = omega (arith, book-count words shape, whole-words words (shaped words shape .whole)) in
+    let told = subst (λ (b : List ℕ). BookRead b list list′ a) there r .answering (read-none (bookOf words) (length list) (book-fine words shape) room) in
+    (told .0 ∙ ap (λ (n : ℕ). answer 103 n 0) (book-count words shape), told .1 ∙ ap (λ (l : List ℕ). laidOn l list) (book-words words shape fits))
 
 pub written-again : WrittenAgain
 written-again book before after n bytes r list list′ a roomy w =
-    let e = replied-fine (read-small book (length before)) r (lit≤ tt) in
-    let known = readable book (length before) e in
-    let made = r .answering e in
-    let count-is : n ≡ count book = ap (λ (x : Answer). x .first) (made .0) in
-    let there : take (6 * n) after ≡ wordsOf book = ap (take (6 * n)) (made .1) ∙ take-over before (wordsOf book) {n = 6 * n} (omega (arith, words-length book (count book), count-is)) in
-    let rows-are = words-rows book (length before) bytes e in
+    let x = words-read book before after n r in
+    let known = is-book book (x .is) in
+    let rows-are = words-rows book in
     let room : size (count book) ≤ length list = omega (arith, known .whole) in
-    let told = subst (λ (x : List ℕ). BookWritten x list list′ a) there w .answering (write-none (wordsOf book) (length list) (words-shape book (length before) bytes e) (sym rows-are) room) in
-    (told .0 ∙ ap (λ (k : ℕ). answer 104 k 0) (ap size rows-are ∙ sym (known .whole)), told .1 ∙ ap (λ (l : List ℕ). over l list) (words-book book (length before) bytes e))
+    let told = subst (λ (l : List ℕ). BookWritten l list list′ a) (x .there) w .answering (write-none (wordsOf book) (length list) (words-shape book (x .is)) (sym rows-are) room) in
+    (told .0 ∙ ap (λ (k : ℕ). answer 104 k 0) (ap size rows-are ∙ sym (known .whole)), told .1 ∙ ap (λ (l : List ℕ). laidOn l list) (words-book book bytes (x .is)))
 
-pub books-only : BooksOnly
-books-only book room bytes e = (wordsOf book, words-shape book room bytes e, sym (words-book book room bytes e))
+pub books-exactly : BooksExactly
+books-exactly = ((λ words shape. book-fine words shape), (λ book bytes e. (wordsOf book, words-shape book e, words-fit book bytes e, sym (words-book book bytes e))))
+
+pub rows-there : RowsThere
+rows-there words shape i f l h =
+    book-word words shape (fromHigh (part (bookOf words) (2 + 4 * i) 4) + 4 * f) (6 * i + f) (omega (arith, book-start words shape i l)) (omega (arith, whole-words words (shaped words shape .whole)))

@@ -5,11 +5,18 @@ ghost use lib.ListN.{length};
 ghost use lib.Seq.{sets};
 ghost use Rattle.licence.specs.Limit.{limit};
 ghost use Rattle.book.specs.Bytes.{low, high, fromLow, fromHigh, part};
-ghost use Rattle.book.specs.Book.{offset, offsets, bodies, wordsIn};
+ghost use Rattle.book.specs.Book.{offset, size, offsets, bodies, wordsIn};
 ghost use Rattle.book.specs.Replies.{readingAnswer, writingAnswer, BookRead, BookWritten};
 
-// No book is longer than this.
+// The bytes of the longest book.
 pub const LONGEST: usize = 2 + 28 * licence::LIMIT;
+
+// Room for the longest book and one byte more: these decide (`first-bytes-decide`).
+pub fn buffer() -> [u8; LONGEST + 1]
+    ensures { λ r. ⌜ length r ≡ size limit + 1 ⌝ }
+{
+    [0; LONGEST + 1]
+}
 
 // The number of rows read, or why the bytes are refused.
 pub enum Reading {

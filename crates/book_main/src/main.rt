@@ -1,10 +1,11 @@
-// Reads one book from standard input, and writes what is written for it. One byte more than the longest book decides (`first-bytes-listed`),
-// so no more is read.
+// Reads one book from standard input, and writes what `listing::list` makes of it. One byte more than the longest book decides
+// (`first-bytes-listed`), so no more is read. An input that cannot be read is taken to end there, and nothing is said where the text
+// cannot be written: the request has no words for either.
 use libc::STDIN_FILENO;
 use libc::STDOUT_FILENO;
 
 fn main() {
-    let mut book = [0u8; book::LONGEST + 1];
+    let mut book = book::buffer();
     let n = io::read_full(STDIN_FILENO, &mut book);
     let mut text = [0u8; listing::LONGEST];
     let end = listing::list(&book[..n], &mut text);

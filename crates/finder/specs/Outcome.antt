@@ -7,7 +7,8 @@ use mathlib.Core.Path.{_≡_, refl, sym, ap, _∙_, subst}
 use mathlib.Core.Logic.{_⊎_, inl, inr, _↔_}
 use mathlib.Core.Bool.{cond}
 use mathlib.Core.List.{List, [], _++_}
-use lib.ListN.{length, drop}
+use lib.ListN.{length, take, drop}
+use lib.Seq.{take-at}
 use lib.Dec.{eqb, lit≤}
 use Rattle.sums.specs.Sums.{count}
 use Rattle.licence.specs.Laws.{row-allowed}
@@ -18,7 +19,7 @@ use Rattle.intake.specs.Words.{rows, tableOf}
 use Rattle.intake.specs.Answer.{Answer, Check, refused, fine}
 use Rattle.intake.specs.Refusals.{tableRefusal}
 use Rattle.intake.specs.Laws.{meet, replied-one, accepted}
-use Rattle.intake.specs.Told.{toldRefusal, told-refusal, not-refusal, number-small, replied-fine, table-small}
+use Rattle.intake.specs.Told.{toldRefusal, told-refusal, not-refusal, number-has, replied-fine, table-small}
 use Rattle.finder.specs.Placing.{Ending, found, none, leads, free, Finds}
 use Rattle.finder.specs.Right.{Right, finds-one, finds-right}
 use Rattle.finder.specs.Tried.{TriedWithin, tried-bound}
@@ -47,6 +48,10 @@ pub record FoundOrder (words before after : List ℕ) : Type 0 where
   pub together : Together (tableOf words) found
   pub ranked : Ranked (tableOf words) found
   pub passing : AllPass (tableOf words) found
+
+-- the order itself is the first n places
+pub found-there : {words before after : List ℕ} (x : FoundOrder words before after) → take (rows words) after ≡ x .found
+found-there {words} {before} x = ap (take (rows words)) (x .laid) ∙ take-at (x .found) (drop (rows words) before) (rows words) (x .long)
 
 -- The answer 'found' means that the lent list has such an order.
 abbrev pub FoundMeans : Type 0
@@ -181,7 +186,7 @@ no-other-reply words before after a s = go (tableRefusal words (length before)) 
     ends (none u t) says = inr (inl (ap (λ (x : Answer). x .number) (says .0)))
 
     go : (c : Check) → tableRefusal words (length before) ≡ c → (a .number ≡ 102) ⊎ ((a .number ≡ 8) ⊎ ((1 ≤ a .number) × (a .number ≤ 4)))
-    go (refused r) e = inr (inr (subst (λ (n : Answer). (1 ≤ n .number) × (n .number ≤ 4)) (sym (s .refusing r e .0)) (number-small (table-small words (length before)) e)))
+    go (refused r) e = inr (inr (subst (λ (n : Answer). (1 ≤ n .number) × (n .number ≤ 4)) (sym (s .refusing r e .0)) (number-has (table-small words (length before)) e)))
     go fine e = let x = s .answering e in ends (x .ending) (x .told)
 
 pub tried-at-most : TriedAtMost

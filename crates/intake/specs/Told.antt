@@ -60,50 +60,60 @@ not-refusal r n l = ne-eqb (refusalAnswer r .number) n (λ e. omega (arith, refu
 
 -- ---- the numbers of the checks
 
--- a check that refuses does so with a number from 1 to `most`
-pub data Small (most : ℕ) : Check → Type 0 where
-  small : {r : Answer} → 1 ≤ r .number → r .number ≤ most → Small most (refused r)
-  none : Small most fine
+-- a check that refuses does so with a number that has this property
+pub data Numbers (P : ℕ → Type 0) : Check → Type 0 where
+  number : {r : Answer} → P (r .number) → Numbers P (refused r)
+  none : Numbers P fine
 
--- so is the number that it refuses with
-pub number-small : {most : ℕ} {c : Check} {r : Answer} → Small most c → c ≡ refused r → (1 ≤ r .number) × (r .number ≤ most)
-number-small {most} {c} {r} h e = go (subst (Small most) e h)
+-- so has the number that it refuses with
+pub number-has : {P : ℕ → Type 0} {c : Check} {r : Answer} → Numbers P c → c ≡ refused r → P (r .number)
+number-has {P} {c} {r} h e = go (subst (Numbers P) e h)
   where
-    go : Small most (refused r) → (1 ≤ r .number) × (r .number ≤ most)
-    go (small k l) = (k, l)
+    go : Numbers P (refused r) → P (r .number)
+    go (number p) = p
 
--- so what is replied with another number was not refused
+pub numbers-map : {P Q : ℕ → Type 0} {c : Check} → ((n : ℕ) → P n → Q n) → Numbers P c → Numbers Q c
+numbers-map f (number p) = number (f _ p)
+numbers-map f none = none
+
+-- checks that run one after the other
+module _ {P : ℕ → Type 0} where
+  pub then-numbers : {a b : Check} → Numbers P a → Numbers P b → Numbers P (a then b)
+  then-numbers (number p) k = number p
+  then-numbers none k = k
+
+  pub if-numbers : (t : Bool) (r : Answer) → P (r .number) → Numbers P (refuseIf t r)
+  if-numbers true r p = number p
+  if-numbers false r p = none
+
+  pub at-numbers : (p : Place) (r : ℕ → Answer) → ((k : ℕ) → P (r k .number)) → Numbers P (refuseAt p r)
+  at-numbers (at k) r p = number (p k)
+  at-numbers nowhere r p = none
+
+-- from 1 to `most`
+abbrev pub UpTo : (most n : ℕ) → Type 0
+UpTo most n = (1 ≤ n) × (n ≤ most)
+
+abbrev pub Small : ℕ → Check → Type 0
+Small most = Numbers (UpTo most)
+
+-- then no more than any wider bound
+pub wider-small : {most more : ℕ} {c : Check} → most ≤ more → Small most c → Small more c
+wider-small l = numbers-map (λ n h. (h .0, le-trans (h .1) l))
+
+-- what is replied with a number past the bound was not refused
 pub replied-fine : {most : ℕ} {c : Check} {before after : List ℕ} {a : Answer} {Answered : Type 0} → Small most c → Replied c before after a Answered → most < a .number → c ≡ fine
 replied-fine {most} {c} {a = a} h x l = go c refl
   where
     go : (d : Check) → c ≡ d → c ≡ fine
-    go (refused r) e = absurd (omega (arith, number-small h e .1, ap (λ (y : Answer). y .number) (x .refusing r e .0)))
+    go (refused r) e = absurd (omega (arith, number-has h e .1, ap (λ (y : Answer). y .number) (x .refusing r e .0)))
     go fine e = e
-
--- then no more than any wider bound
-pub wider-small : {most more : ℕ} {c : Check} → most ≤ more → Small most c → Small more c
-wider-small l (small k h) = small k (le-trans h l)
-wider-small l none = none
-
--- checks that run one after the other
-module _ {most : ℕ} where
-  pub then-small : {a b : Check} → Small most a → Small most b → Small most (a then b)
-  then-small (small i h) k = small i h
-  then-small none k = k
-
-  pub if-small : (t : Bool) (r : Answer) → 1 ≤ r .number → r .number ≤ most → Small most (refuseIf t r)
-  if-small true r i h = small i h
-  if-small false r i h = none
-
-  pub at-small : (p : Place) (r : ℕ → Answer) → ((k : ℕ) → 1 ≤ r k .number) → ((k : ℕ) → r k .number ≤ most) → Small most (refuseAt p r)
-  at-small (at k) r i h = small (i k) (h k)
-  at-small nowhere r i h = none
 
 -- the checks of a lent table
 pub shape-small : (words : List ℕ) → Small 2 (shapeRefusal words)
 unfolding shapeRefusal
-shape-small words = search (then-small, if-small, lit≤) depth 5
+shape-small words = search (then-numbers, if-numbers, lit≤) depth 6
 
 pub table-small : (words : List ℕ) (room : ℕ) → Small 4 (tableRefusal words room)
 unfolding tableRefusal
-table-small words room = then-small (wider-small (lit≤ tt) (shape-small words)) (search (then-small, if-small, at-small, lit≤) depth 7)
+table-small words room = then-numbers (wider-small (lit≤ tt) (shape-small words)) (search (then-numbers, if-numbers, at-numbers, lit≤) depth 8)

@@ -19,7 +19,7 @@ use Rattle.intake.specs.Words.{rows, tableOf}
 use Rattle.intake.specs.Answer.{Answer, answer, refused, fine}
 use Rattle.judge.specs.Judged.{judgementAnswer, orderRefusal, refusal, LateAt, ShownAt, Written, AllPassed, SomeLate, Judged}
 use Rattle.intake.specs.Laws.{replied-one}
-use Rattle.intake.specs.Told.{toldRefusal, told-refusal, not-refusal, Small, then-small, if-small, at-small, wider-small, number-small, replied-fine, table-small}
+use Rattle.intake.specs.Told.{toldRefusal, told-refusal, not-refusal, Small, then-numbers, if-numbers, at-numbers, wider-small, number-has, replied-fine, table-small}
 use Rattle.judge.specs.declared.Judgement.{Judgement}
 use Rattle.judge.specs.declared.Judgement.the-variants.{Passed, Late, Refused}
 use Rattle.judge.specs.Fine.{Fine, fine-order, some-bits, entry-row, place-of}
@@ -150,10 +150,10 @@ passing-answered words order before after a j e h =
 -- the checks of the table have numbers up to 4, and those of the order 5 to 7
 seven : (words order : List ℕ) (room : ℕ) → Small 7 (refusal words order room)
 unfolding orderRefusal
-seven words order room = then-small (wider-small (lit≤ tt) (table-small words room)) (search (then-small, if-small, at-small, lit≤))
+seven words order room = then-numbers (wider-small (lit≤ tt) (table-small words room)) (search (then-numbers, if-numbers, at-numbers, lit≤) depth 8)
 
 pub refused-small : RefusedSmall
-refused-small words order room r e = number-small (seven words order room) e
+refused-small words order room r e = number-has (seven words order room) e
 
 pub passed-means : PassedMeans
 passed-means words order before after a j is-100 =

@@ -1,78 +1,48 @@
 -- What an order that was found is known to be, as the lines need it; and the text at the start of a list.
 -- Assumes nothing.
-use Prim.Native.Nat.{ℕ, _*_, _≤_, _<_}
+use Prim.Native.Nat.{ℕ, _≤_, _<_}
 use native.Mathlib.Omega.{arith}
 use mathlib.Core.Path.{_≡_, sym, ap, subst, _∙_}
 use mathlib.Core.List.{List}
 use lib.ListN.{length, take, drop}
-use lib.Seq.{sets, length-sets, take-at, drop-at, length-take-le}
-use lib.Dec.{lit≤}
+use lib.Seq.{sets, length-sets, drop-at, length-take-le}
 use Rattle.sums.specs.Columns.{at}
 use Rattle.licence.specs.Limit.{limit}
 use Rattle.order.specs.Lists.{mem-getD}
 use Rattle.intake.specs.Words.{rows}
-use Rattle.intake.specs.Answer.{Answer, answer, refusalAnswer, fine}
+use Rattle.intake.specs.Answer.{Answer, refusalAnswer}
 use Rattle.intake.specs.Laws.{accepted}
-use Rattle.intake.specs.Told.{refusal-small, replied-fine}
+use Rattle.intake.specs.Told.{refusal-small}
 use Rattle.intake.specs.declared.Refusal.{Refusal}
 use Rattle.finder.specs.Searched.{Searched}
-use Rattle.finder.specs.Outcome.{found-means}
-use Rattle.book.specs.Book.{count, wordsOf}
-use Rattle.book.specs.Replies.{readRefusal, BookRead}
-use Rattle.book.specs.ListLaws.{sets-over, take-over}
-use Rattle.book.specs.Laws.{readable, words-length}
-use Rattle.book.specs.Outcome.{read-small}
+use Rattle.finder.specs.Outcome.{found-means, found-there}
+use Rattle.book.specs.ListLaws.{sets-laid, take-laid}
 use Rattle.listing.specs.Text.{refusedLine, lineMost}
 use Rattle.listing.specs.TextLaws.{decimal-length, refused-length}
 use Rattle.listing.specs.Listed.{Stands, Counts}
 
 -- as many entries as rows, each a row
-pub record RowsOnce (n : ℕ) (order : List ℕ) : Type 0 where
+pub record RowNumbers (n : ℕ) (order : List ℕ) : Type 0 where
   pub few : n ≤ limit
   pub long : length order ≡ n
   pub range : (p : ℕ) → p < n → at order p < n
 
-pub found-rows : (words before after : List ℕ) (a : Answer) → Searched words before after a → a .number ≡ 102 → RowsOnce (rows words) (take (rows words) after)
+pub found-rows : (words before after : List ℕ) (a : Answer) → Searched words before after a → a .number ≡ 102 → RowNumbers (rows words) (take (rows words) after)
 found-rows words before after a s e =
     let x = found-means words before after a s e in
-    let there : take (rows words) after ≡ x .found = ap (take (rows words)) (x .laid) ∙ take-at (x .found) (drop (rows words) before) (rows words) (x .long) in
-    subst (RowsOnce (rows words)) (sym there) (record {
+    subst (RowNumbers (rows words)) (sym (found-there x)) (record {
       few = accepted words (length before) (x .unrefused) .few;
       long = x .long;
       range = λ p l. x .order .range (at (x .found) p) (mem-getD (x .found) p (omega (arith, x .long)));
     })
 
--- what a book that was read is known to be
-pub record WordsRead (book : List ℕ) (room n : ℕ) (words : List ℕ) : Type 0 where
-  pub unrefused : readRefusal book room ≡ fine
-  pub few : n ≤ limit
-  pub roomy : 6 * n ≤ room
-  pub there : take (6 * n) words ≡ wordsOf book
-  pub rows-are : n ≡ rows (take (6 * n) words)
-
-pub words-read : (book before after : List ℕ) (n : ℕ) → BookRead book before after (answer 103 n 0) → WordsRead book (length before) n after
-words-read book before after n r =
-    let e = replied-fine (read-small book (length before)) r (lit≤ tt) in
-    let known = readable book (length before) e in
-    let made = r .answering e in
-    let counted : n ≡ count book = ap (λ (x : Answer). x .first) (made .0) in
-    let all = words-length book (count book) in
-    let there : take (6 * n) after ≡ wordsOf book = ap (take (6 * n)) (made .1) ∙ take-over before (wordsOf book) {n = 6 * n} (omega (arith, all, counted)) in
-    record {
-      unrefused = e;
-      few = omega (arith, counted, known .few);
-      roomy = omega (arith, counted, known .roomy);
-      there = there;
-      rows-are = omega (arith, counted, ap length there ∙ all);
-    }
-
 -- what was stored from the start stands there
 pub text-stands : (Text : List ℕ → Type 0) (list xs : List ℕ) {after : List ℕ} {r : ℕ} → r ≡ length xs → after ≡ sets list 0 xs → length xs ≤ length list → Text xs → Stands Text list after r
 text-stands Text list xs {after} {r} e s l x =
-    let laid = s ∙ sets-over list xs l in
+    let laid = s ∙ sets-laid list xs l in
     record {
       inside = omega (arith, e, ap length s ∙ length-sets list 0 xs);
-      text = subst Text (sym (ap (take r) laid ∙ take-over list xs (sym e))) x;
+      text = subst Text (sym (ap (take r) laid ∙ take-laid list xs (sym e))) x;
       behind = ap (drop r) laid ∙ drop-at xs (drop (length xs) list) r (sym e) ∙ ap (λ (k : ℕ). drop k list) (sym e);
     }
 

@@ -1,6 +1,6 @@
--- Which text is written for which book: it is read, an order is found, that is judged, and its lines are shown; or the refusal. Definitions only.
+-- Which text is made for which bytes: the book is read, an order is found, that is judged, and its lines are shown; or the refusal. Definitions only.
 -- Assumes nothing.
-use Prim.Native.Nat.{ℕ, _*_, _≤_}
+use Prim.Native.Nat.{ℕ, _≤_}
 use mathlib.Core.Path.{_≡_}
 use mathlib.Core.List.{List}
 use lib.ListN.{length, take, drop, replicate}
@@ -11,7 +11,7 @@ use Rattle.intake.specs.declared.Refusal.{Refusal}
 use Rattle.judge.specs.Judged.{Judged}
 use Rattle.finder.specs.Searched.{Searched}
 use Rattle.book.specs.Book.{wordsOf}
-use Rattle.book.specs.Replies.{readRefusal}
+use Rattle.book.specs.Replies.{bookRefusal}
 use Rattle.listing.specs.Text.{lines, refusedLine}
 
 -- a list lent for an answer: room for a row each of the longest table
@@ -27,10 +27,10 @@ pub data WordsListed (words text : List ℕ) : Type 0 where
   found : (order figures : List ℕ) (tried : ℕ) (verdict : Answer) → Searched words blank order (answer 102 tried 0) → Judged words (take (rows words) order) blank figures verdict
       → text ≡ lines (take (rows words) order) figures → WordsListed words text
 
--- the text for a book: its words are listed, or reading refuses; there is room for the words of any book
+-- the text for any bytes: what is no book is refused, and of a book the words are listed
 pub record Listed (book text : List ℕ) : Type 0 where
-  pub unread : (r : Answer) → readRefusal book (6 * limit) ≡ refused r → text ≡ refusedLine (r .number)
-  pub listed : readRefusal book (6 * limit) ≡ fine → WordsListed (wordsOf book) text
+  pub unread : (r : Answer) → bookRefusal book ≡ refused r → text ≡ refusedLine (r .number)
+  pub listed : bookRefusal book ≡ fine → WordsListed (wordsOf book) text
 
 -- a text with this property stands in the first r places of a list, and what stood behind them stays
 pub record Stands (Text : List ℕ → Type 0) (before after : List ℕ) (r : ℕ) : Type 0 where

@@ -1,23 +1,34 @@
--- One text for each book; and an input longer than any book is answered by its first bytes. The promises come first, their proofs below.
+-- One text for each book, which shows lines or refuses by one of six numbers; and an input longer than any book is answered by its first bytes. The promises come first, their proofs below.
 -- Assumes nothing.
-use Prim.Native.Nat.{ℕ, _*_, _≤_, _<_}
+use Prim.Native.Nat.{ℕ, _≤_, _<_}
+use native.Mathlib.Decide.{decLe}
 use native.Mathlib.Omega.{arith}
 use mathlib.Core.Path.{_≡_, refl, sym, ap, ap₂, subst, _∙_}
-use mathlib.Core.List.{List, _++_}
+use mathlib.Core.Logic.{_⊎_, inl, inr}
+use mathlib.Core.List.{List, [], _∷_, _++_}
 use lib.ListN.{length, take, drop, take-append-drop}
-use lib.Seq.{length-take-le}
+use lib.Seq.{take-all, length-take-le}
+use lib.Dec.{T as Is}
 use Rattle.licence.specs.Limit.{limit}
+use Rattle.order.specs.Orders.{mem}
+use Rattle.order.specs.Lists.{mem-there}
 use Rattle.intake.specs.Words.{rows}
 use Rattle.intake.specs.Answer.{Answer, answer, refusalAnswer, Check, refused, fine}
+use Rattle.intake.specs.Refusals.{tableRefusal}
+use Rattle.intake.specs.Laws.{shaped, only-3}
 use Rattle.intake.specs.Told.{refusal-small}
+use Rattle.intake.specs.declared.Refusal.{Refusal}
 use Rattle.judge.specs.Judged.{Judged}
 use Rattle.judge.specs.Outcome.{one-outcome as one-judged}
+use Rattle.finder.specs.Placing.{Ending, found, none}
+use Rattle.finder.specs.Searched.{Told, Searched}
 use Rattle.finder.specs.Outcome.{one-outcome as one-searched}
 use Rattle.book.specs.Book.{size, wordsOf}
-use Rattle.book.specs.Replies.{readRefusal}
-use Rattle.book.specs.Outcome.{first-bytes-decide}
+use Rattle.book.specs.Replies.{bookRefusal}
+use Rattle.book.specs.Laws.{words-shape}
+use Rattle.book.specs.Outcome.{OneOf, refused-by, first-bytes-decide}
 use Rattle.listing.specs.Text.{lines, refusedLine}
-use Rattle.listing.specs.Listed.{blank, WordsListed, none, found, Listed, Stands}
+use Rattle.listing.specs.Listed.{blank, WordsListed, none as listed-none, found as listed-found, Listed, Stands}
 
 -- No two texts are right for one book.
 abbrev pub OneText : Type 0
@@ -27,29 +38,34 @@ OneText = (book text text′ : List ℕ) → Listed book text → Listed book te
 abbrev pub OneListing : Type 0
 OneListing = (book before after after′ : List ℕ) (r r′ : ℕ) → Stands (Listed book) before after r → Stands (Listed book) before after′ r′ → (r ≡ r′) × (after ≡ after′)
 
--- Of an input that is longer than any book, the text for any first bytes that are longer too is the text for the whole.
+-- The text for the first bytes of any input, more of them than any book has, is the text for the whole.
 abbrev pub FirstBytesListed : Type 0
-FirstBytesListed = (input text : List ℕ) (k : ℕ) → size limit < k → k ≤ length input → Listed (take k input) text → Listed input text
+FirstBytesListed = (input text : List ℕ) (k : ℕ) → size limit < k → Listed (take k input) text → Listed input text
+
+-- A text shows lines, or it refuses by 3, 8, 20, 2, 21 or 22.
+abbrev pub SaysOnly : Type 0
+SaysOnly = (book text : List ℕ) → Listed book text
+    → ((order : List ℕ) × (figures : List ℕ) × (text ≡ lines order figures)) ⊎ ((k : ℕ) × OneOf (3 ∷ 8 ∷ 20 ∷ 2 ∷ 21 ∷ 22 ∷ []) k × (text ≡ refusedLine k))
 
 -- ---- the proofs
 
 one-words : (words text text′ : List ℕ) → WordsListed words text → WordsListed words text′ → text ≡ text′
-one-words words text text′ (none r after s e) (none r′ after′ s′ e′) =
+one-words words text text′ (listed-none r after s e) (listed-none r′ after′ s′ e′) =
     e ∙ ap (λ (a : Answer). refusedLine (a .number)) (one-searched words blank after after′ (refusalAnswer r) (refusalAnswer r′) s s′ .0) ∙ sym e′
-one-words words text text′ (none r after s e) (found order figures tried verdict s′ j′ e′) =
+one-words words text text′ (listed-none r after s e) (listed-found order figures tried verdict s′ j′ e′) =
     absurd (omega (arith, refusal-small r, ap (λ (a : Answer). a .number) (one-searched words blank after order (refusalAnswer r) (answer 102 tried 0) s s′ .0)))
-one-words words text text′ (found order figures tried verdict s j e) (none r after s′ e′) =
+one-words words text text′ (listed-found order figures tried verdict s j e) (listed-none r after s′ e′) =
     absurd (omega (arith, refusal-small r, ap (λ (a : Answer). a .number) (one-searched words blank order after (answer 102 tried 0) (refusalAnswer r) s s′ .0)))
-one-words words text text′ (found order figures tried verdict s j e) (found order′ figures′ tried′ verdict′ s′ j′ e′) =
+one-words words text text′ (listed-found order figures tried verdict s j e) (listed-found order′ figures′ tried′ verdict′ s′ j′ e′) =
     let same = one-searched words blank order order′ (answer 102 tried 0) (answer 102 tried′ 0) s s′ .1 in
     let judged = subst (λ (o : List ℕ). Judged words (take (rows words) o) blank figures′ verdict′) (sym same) j′ in
     let shown = one-judged words (take (rows words) order) blank figures figures′ verdict verdict′ j judged .1 in
     e ∙ ap₂ (λ (o f : List ℕ). lines (take (rows words) o) f) same shown ∙ sym e′
 
 pub one-text : OneText
-one-text book text text′ x y = go (readRefusal book (6 * limit)) refl
+one-text book text text′ x y = go (bookRefusal book) refl
   where
-    go : (c : Check) → readRefusal book (6 * limit) ≡ c → text ≡ text′
+    go : (c : Check) → bookRefusal book ≡ c → text ≡ text′
     go (refused r) e = x .unread r e ∙ sym (y .unread r e)
     go fine e = one-words (wordsOf book) text text′ (x .listed e) (y .listed e)
 
@@ -60,9 +76,41 @@ one-listing book before after after′ r r′ x y =
     (long, sym (take-append-drop r after) ∙ ap₂ (λ (t b : List ℕ). t ++ b) same (x .behind ∙ ap (λ (k : ℕ). drop k before) long ∙ sym (y .behind)) ∙ take-append-drop r′ after′)
 
 pub first-bytes-listed : FirstBytesListed
-first-bytes-listed input text k l h x =
-    let d = first-bytes-decide input (6 * limit) k l h in
-    record {
-      unread = λ r e. x .unread r (d .1 ∙ sym (d .2) ∙ e);
-      listed = λ e. absurd (let z : _≡_ {A = ℕ} 0 1 = cc in omega arith);
-    }
+first-bytes-listed input text k l x = go (decLe k (length input))
+  where
+    go : Dec (k ≤ length input) → Listed input text
+    go (no h) = subst (λ (i : List ℕ). Listed i text) (take-all k input (omega arith)) x
+    go (yes h) =
+        let d = first-bytes-decide input k l h in
+        record {
+          unread = λ r e. x .unread r (d .1 ∙ sym (d .2) ∙ e);
+          listed = λ e. absurd (let y = sym (d .2) ∙ e in let z : _≡_ {A = ℕ} 0 1 = cc in omega arith);
+        }
+
+-- finding refuses the words of a book by 3 and 8 alone: they have the shape of a table, and there is room
+words-by : (book after : List ℕ) (r : Refusal) → bookRefusal book ≡ fine → Searched (wordsOf book) blank after (refusalAnswer r) → OneOf (3 ∷ 8 ∷ 20 ∷ 2 ∷ 21 ∷ 22 ∷ []) (refusalAnswer r .number)
+unfolding mem blank limit
+words-by book after r e s = go (tableRefusal (wordsOf book) (length blank)) refl
+  where
+    ends : (x : Ending) → Told x blank after (refusalAnswer r) → Is (mem (3 ∷ 8 ∷ 20 ∷ 2 ∷ 21 ∷ 22 ∷ []) (refusalAnswer r .number))
+    ends (found o t) says = absurd (omega (arith, refusal-small r, ap (λ (a : Answer). a .number) (says .0)))
+    ends (none u t) says = subst (λ (a : Answer). Is (mem (3 ∷ 8 ∷ 20 ∷ 2 ∷ 21 ∷ 22 ∷ []) (a .number))) (sym (says .0)) tt
+
+    go : (c : Check) → tableRefusal (wordsOf book) (length blank) ≡ c → Is (mem (3 ∷ 8 ∷ 20 ∷ 2 ∷ 21 ∷ 22 ∷ []) (refusalAnswer r .number))
+    go (refused a) q =
+        let shape = words-shape book e in
+        let three = ap (λ (x : Answer). x .number) (s .refusing a q .0) ∙ only-3 (wordsOf book) (length blank) shape refl (omega (arith, shaped (wordsOf book) shape .few)) q in
+        subst (λ (n : ℕ). Is (mem (3 ∷ 8 ∷ 20 ∷ 2 ∷ 21 ∷ 22 ∷ []) n)) (sym three) tt
+    go fine q = let x = s .answering q in ends (x .ending) (x .told)
+
+pub says-only : SaysOnly
+says-only book text x = go (bookRefusal book) refl
+  where
+    words : bookRefusal book ≡ fine → WordsListed (wordsOf book) text
+        → ((order : List ℕ) × (figures : List ℕ) × (text ≡ lines order figures)) ⊎ ((k : ℕ) × OneOf (3 ∷ 8 ∷ 20 ∷ 2 ∷ 21 ∷ 22 ∷ []) k × (text ≡ refusedLine k))
+    words e (listed-none r after s q) = inr (refusalAnswer r .number, words-by book after r e s, q)
+    words e (listed-found order figures tried verdict s j q) = inl (take (rows (wordsOf book)) order, figures, q)
+
+    go : (c : Check) → bookRefusal book ≡ c → ((order : List ℕ) × (figures : List ℕ) × (text ≡ lines order figures)) ⊎ ((k : ℕ) × OneOf (3 ∷ 8 ∷ 20 ∷ 2 ∷ 21 ∷ 22 ∷ []) k × (text ≡ refusedLine k))
+    go (refused r) e = inr (r .number, mem-there 3 _ (r .number) (mem-there 8 _ (r .number) (refused-by .1 book r e)), x .unread r e)
+    go fine e = words e (x .listed e)

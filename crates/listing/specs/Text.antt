@@ -1,4 +1,4 @@
--- What the program writes for a book, byte by byte: numbers in decimal, a line a row, the line of a refusal. Definitions only.
+-- The text for a book, byte by byte: numbers in decimal, a line a row, the line of a refusal. Definitions only.
 -- Assumes nothing.
 use Prim.Native.Nat.{ℕ, zero, suc, _+_, _/_, _%_}
 use mathlib.Core.Bool.{cond}
@@ -26,12 +26,12 @@ abbrev pub lines : (order figures : List ℕ) → List ℕ
 lines order figures = each (λ p. line (at order p) (at figures (at order p))) 0 (length order)
 
 -- the bytes of 'refused '
-abbrev pub word : List ℕ
-word = 114 ∷ 101 ∷ 102 ∷ 117 ∷ 115 ∷ 101 ∷ 100 ∷ 32 ∷ []
+abbrev pub refusedWord : List ℕ
+refusedWord = 114 ∷ 101 ∷ 102 ∷ 117 ∷ 115 ∷ 101 ∷ 100 ∷ 32 ∷ []
 
 -- 'A refusal is one line, such as refused 8': the word, the number, and the line's end
 abbrev pub refusedLine : ℕ → List ℕ
-refusedLine number = word ++ decimal number ++ (10 ∷ [])
+refusedLine number = refusedWord ++ decimal number ++ (10 ∷ [])
 
 -- no line is longer: two numbers of at most ten digits, a space and its end
 abbrev pub lineMost : ℕ

@@ -12,7 +12,7 @@ use lib.Seq.{sets}
 use lib.Dec.{ltb, lit<}
 use borrow.Author.Tests.{lt-ltb, le-ltb}
 use Rattle.book.specs.ListLaws.{sets-append}
-use Rattle.listing.specs.Text.{spelled, decimal, line, word, refusedLine, lineMost}
+use Rattle.listing.specs.Text.{spelled, decimal, line, refusedWord, refusedLine, lineMost}
 
 -- any number from n on will do for counting down
 spelled-same : (a b n : ℕ) → n ≤ a → n ≤ b → spelled a n ≡ spelled b n
@@ -79,11 +79,11 @@ line-stored text row figure end {space} {stop} s e =
 -- ---- a refusal
 
 pub refused-length : (number : ℕ) → length (refusedLine number) ≡ 8 + length (decimal number) + 1
-refused-length number = length-append (word ++ decimal number) (10 ∷ []) ∙ omega (arith, length-append word (decimal number))
+refused-length number = length-append (refusedWord ++ decimal number) (10 ∷ []) ∙ omega (arith, length-append refusedWord (decimal number))
 
-pub refused-stored : (text : List ℕ) (number : ℕ) {stop : ℕ} → stop ≡ 8 + length (decimal number) → set (sets (sets text 0 word) 8 (decimal number)) stop 10 ≡ sets text 0 (refusedLine number)
+pub refused-stored : (text : List ℕ) (number : ℕ) {stop : ℕ} → stop ≡ 8 + length (decimal number) → set (sets (sets text 0 refusedWord) 8 (decimal number)) stop 10 ≡ sets text 0 (refusedLine number)
 refused-stored text number {stop} e =
-    let last : stop ≡ 0 + length (word ++ decimal number) = omega (arith, e, length-append word (decimal number)) in
-    ap (λ (p : ℕ). set (sets (sets text 0 word) 8 (decimal number)) p 10) last
-    ∙ ap (λ (l : List ℕ). set l (0 + length (word ++ decimal number)) 10) (sym (sets-append text 0 word (decimal number)))
-    ∙ sym (sets-append text 0 (word ++ decimal number) (10 ∷ []))
+    let last : stop ≡ 0 + length (refusedWord ++ decimal number) = omega (arith, e, length-append refusedWord (decimal number)) in
+    ap (λ (p : ℕ). set (sets (sets text 0 refusedWord) 8 (decimal number)) p 10) last
+    ∙ ap (λ (l : List ℕ). set l (0 + length (refusedWord ++ decimal number)) 10) (sym (sets-append text 0 refusedWord (decimal number)))
+    ∙ sym (sets-append text 0 (refusedWord ++ decimal number) (10 ∷ []))

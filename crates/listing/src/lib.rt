@@ -1,9 +1,9 @@
-// What the program writes for a book: a line a row, highest first, or one line that refuses.
+// Makes the text for a book, which the program writes: a line a row, highest first, or one line that refuses.
 ghost use mathlib.Core.Path.{_≡_};
 ghost use Prim.Native.Nat.{ℕ, _+_, _*_, _≤_, _<_};
 ghost use lib.ListN.{length};
 ghost use lib.Seq.{sets};
-ghost use Rattle.sums.specs.Columns.{at};
+ghost use Rattle.sums.specs.Columns.{at as Columns·at};
 ghost use Rattle.licence.specs.Limit.{limit};
 ghost use Rattle.intake.specs.Words.{rows};
 ghost use Rattle.intake.specs.Answer.{refusalAnswer};
@@ -13,26 +13,26 @@ ghost use Rattle.listing.specs.Listed.{WordsListed, Listed, Stands, Coun
 // No text is longer than this: a line a row, each of at most 22 bytes (`lineMost`).
 pub const LONGEST: usize = 22 * licence::LIMIT;
 
-// Writes n in decimal from place `end` on, and answers where it ends.
-fn put_decimal(text: &mut [u8], end: usize, n: u32) -> usize
-    requires { ⌜ end + length (decimal n) ≤ length (now text) ⌝ }
-    ensures { λ r. ⌜ (r ≡ end + length (decimal n)) × (now (text .exit) ≡ sets (now (text .entry)) end (decimal n)) ⌝ }
+// Writes n in decimal from place `at` on, and answers where it ends.
+fn put_decimal(text: &mut [u8], at: usize, n: u32) -> usize
+    requires { ⌜ at + length (decimal n) ≤ length (now text) ⌝ }
+    ensures { λ r. ⌜ (r ≡ at + length (decimal n)) × (now (text .exit) ≡ sets (now (text .entry)) at (decimal n)) ⌝ }
 {
     if n < 10 {
-        text[end] = 48 + n as u8;
-        return end + 1;
+        text[at] = 48 + n as u8;
+        return at + 1;
     }
-    let next = put_decimal(text, end, n / 10);
+    let next = put_decimal(text, at, n / 10);
     text[next] = 48 + (n % 10) as u8;
     next + 1
 }
 
-// Writes a line from place `end` on, row, space and figure, and answers where it ends.
-fn put_line(text: &mut [u8], end: usize, row: u32, figure: u32) -> usize
-    requires { ⌜ end + lineMost ≤ length (now text) ⌝ }
-    ensures { λ r. ⌜ (r ≡ end + length (line row figure)) × (now (text .exit) ≡ sets (now (text .entry)) end (line row figure)) ⌝ }
+// Writes a line from place `at` on, row, space and figure, and answers where it ends.
+fn put_line(text: &mut [u8], at: usize, row: u32, figure: u32) -> usize
+    requires { ⌜ at + lineMost ≤ length (now text) ⌝ }
+    ensures { λ r. ⌜ (r ≡ at + length (line row figure)) × (now (text .exit) ≡ sets (now (text .entry)) at (line row figure)) ⌝ }
 {
-    let space = put_decimal(text, end, row);
+    let space = put_decimal(text, at, row);
     text[space] = b' ';
     let stop = put_decimal(text, space + 1, figure);
     text[stop] = b'\n';
@@ -41,7 +41,7 @@ fn put_line(text: &mut [u8], end: usize, row: u32, figure: u32) -> usize
 
 // Writes a line for each row of the order, and answers where they end.
 fn put_lines(order: &[u32], figures: &[u32], text: &mut [u8]) -> usize
-    requires { ⌜ ((p : ℕ) → p < length (now order) → at (now order) p < length (now figures)) × (lineMost * length (now order) ≤ length (now text)) ⌝ }
+    requires { ⌜ ((p : ℕ) → p < length (now order) → Columns·at (now order) p < length (now figures)) × (lineMost * length (now order) ≤ length (now text)) ⌝ }
     ensures { λ r. ⌜ (r ≤ lineMost * length (now (order .entry))) × (r ≡ length (lines (now (order .entry)) (now (figures .entry)))) × (now (text .exit) ≡ sets (now (text .entry)) 0 (lines (now (order .entry)) (now (figures .entry)))) ⌝ }
 {
     let mut end: usize = 0;

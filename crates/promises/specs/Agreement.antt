@@ -1,10 +1,9 @@
 -- The finder and the judge agree. The promises come first, their proofs below.
 -- Assumes nothing.
 use Prim.Native.Nat.{ℕ, _≤_}
-use mathlib.Core.Path.{_≡_, sym, ap, subst, _∙_}
+use mathlib.Core.Path.{_≡_, sym, subst}
 use mathlib.Core.List.{List}
-use lib.ListN.{length, take, drop}
-use lib.Seq.{take-at}
+use lib.ListN.{length, take}
 use Rattle.order.specs.Orders.{AllPass}
 use Rattle.intake.specs.Words.{rows, tableOf}
 use Rattle.intake.specs.Answer.{Answer, answer}
@@ -13,7 +12,7 @@ use Rattle.judge.specs.Judged.{Judged}
 use Rattle.judge.specs.Fine.{Fine, order-fine}
 use Rattle.judge.specs.Outcome.{passed-means, passing-answered}
 use Rattle.finder.specs.Searched.{Searched}
-use Rattle.finder.specs.Outcome.{found-means, no-order-at-all}
+use Rattle.finder.specs.Outcome.{found-means, found-there, no-order-at-all}
 
 -- An order that was found, judged with any list lent for the figures that has room for them, is answered 'passed'.
 abbrev pub FoundIsPassed : Type 0
@@ -34,8 +33,7 @@ pub found-fine : (words before after : List ℕ) (a : Answer) → Searched words
 found-fine words before after a s is-102 =
     let x = found-means words before after a s is-102 in
     let ok = accepted words (length before) (x .unrefused) in
-    let there : take (rows words) after ≡ x .found = ap (take (rows words)) (x .laid) ∙ take-at (x .found) (drop (rows words) before) (rows words) (x .long) in
-    subst (FoundFine words) (sym there) (record {
+    subst (FoundFine words) (sym (found-there x)) (record {
       known = λ room l. record { accepted = record { whole = ok .whole; few = ok .few; good = ok .good; roomy = l }; count = x .long; order = x .order; together = x .together };
       passing = x .passing;
     })

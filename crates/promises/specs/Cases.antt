@@ -62,6 +62,9 @@ tableA = row 0 125 1000 750 0 ∷ row 0 125 1000 350 0 ∷ row 0 125 1000 750 0 
 abbrev pub tableC : List Line
 tableC = row 1 100 1000 1000 0 ∷ row 1 60 1000 600 0 ∷ row 0 80 500 500 0 ∷ []
 
+abbrev pub tableI : List Line
+tableI = row 0 10 19 19 0 ∷ row 0 10 19 19 0 ∷ []
+
 abbrev passed : Answer
 passed = answer 100 0 0
 
@@ -86,7 +89,7 @@ cases =
     ∷ judging (row 0 55 110 110 0 ∷ []) (0 ∷ []) passed (110 ∷ [])
     ∷ judging (row 0 55 110 109 0 ∷ []) (0 ∷ []) (late 0) (0 ∷ [])
     -- i
-    ∷ finding (row 0 10 19 19 0 ∷ row 0 10 19 19 0 ∷ []) (answer 8 2 2) (9999 ∷ 9999 ∷ [])
+    ∷ finding tableI (answer 8 2 2) (9999 ∷ 9999 ∷ [])
     -- j
     ∷ judging (row 0 10 100 50 50 ∷ []) (0 ∷ []) (late 0) (0 ∷ [])
     -- k

@@ -1,7 +1,7 @@
--- What the program writes for a book is worth what demand 3 says: the order that it shows is passed, and on the bus its figures are kept. And for table
--- a it is the four lines of the request. The promises come first, their proofs below.
+-- The text that `listing::list` makes for a book, and the program writes, is worth what demand 3 says: the order that it shows is passed, and on the bus its figures are
+-- kept. For the book of table a, byte by byte, it is the four lines of the request, and for that of case i the line `refused 8`. The promises come first, their proofs below.
 -- Assumes nothing.
-use Prim.Native.Nat.{ℕ, _*_}
+use Prim.Native.Nat.{ℕ}
 use native.Mathlib.Decide.{ℕ-discrete, decLe}
 use native.Mathlib.Omega.{arith}
 use mathlib.Core.Path.{_≡_, refl, subst}
@@ -19,19 +19,20 @@ use Rattle.intake.specs.Answer.{answer, refusalAnswer, fine}
 use Rattle.intake.specs.Refusals.{shapeRefusal, tableRefusal}
 use Rattle.intake.specs.Laws.{accepted}
 use Rattle.intake.specs.declared.Refusal.{Refusal}
+use Rattle.intake.specs.declared.Refusal.the-variants.{NoOrder}
 use Rattle.judge.specs.Judged.{orderRefusal, Judged}
 use Rattle.finder.specs.Placing.{rising, leads}
 use Rattle.finder.specs.Searched.{Searched}
 use Rattle.finder.specs.Outcome.{found-means}
 use Rattle.book.specs.Book.{bookOf, wordsOf}
-use Rattle.book.specs.Replies.{readRefusal}
+use Rattle.book.specs.Replies.{bookRefusal}
 use Rattle.listing.specs.Text.{decimal, lines, refusedLine}
 use Rattle.listing.specs.Listed.{blank, WordsListed, none, found, Listed}
 use Rattle.promises.specs.Agreement.{found-is-passed}
 use Rattle.promises.specs.Demand3.{KeepsFigures, passed-is-kept}
 use Rattle.promises.specs.Reckon.{climb, reckon, same-list}
 use Rattle.promises.specs.Worked.{judged, follow, searched}
-use Rattle.promises.specs.Cases.{wordsOf as rowsOf, tableA}
+use Rattle.promises.specs.Cases.{wordsOf as tableWords, tableA, tableI}
 
 -- a text that shows an order: it is the lines of an order and figures, the judge answers 'passed' with just these, and the bus keeps them
 pub record ShowsKept (words text : List ℕ) : Type 0 where
@@ -48,18 +49,36 @@ pub record SaysRefused (words text : List ℕ) : Type 0 where
   pub refused : Searched words blank after (refusalAnswer refusal)
   pub shows : text ≡ refusedLine (refusalAnswer refusal .number)
 
--- For any book that is read, the text says that finding refuses, or it shows an order that is passed and kept.
+-- For any book, the text says that finding refuses, or it shows an order that is passed and kept.
 abbrev pub ListedIsKept : Type 0
-ListedIsKept = (book text : List ℕ) → Listed book text → readRefusal book (6 * limit) ≡ fine → ShowsKept (wordsOf book) text ⊎ SaysRefused (wordsOf book) text
+ListedIsKept = (book text : List ℕ) → Listed book text → bookRefusal book ≡ fine → ShowsKept (wordsOf book) text ⊎ SaysRefused (wordsOf book) text
+
+-- The book of table a: its count, the four offsets 18, 42, 66 and 90, and the four rows.
+abbrev pub bookA : List ℕ
+bookA =
+    (0 ∷ 4
+    ∷ 0 ∷ 0 ∷ 0 ∷ 18 ∷ 0 ∷ 0 ∷ 0 ∷ 42 ∷ 0 ∷ 0 ∷ 0 ∷ 66 ∷ 0 ∷ 0 ∷ 0 ∷ 90
+    ∷ 0 ∷ 0 ∷ 0 ∷ 0 ∷ 0 ∷ 0 ∷ 0 ∷ 0 ∷ 125 ∷ 0 ∷ 0 ∷ 0 ∷ 232 ∷ 3 ∷ 0 ∷ 0 ∷ 238 ∷ 2 ∷ 0 ∷ 0 ∷ 0 ∷ 0 ∷ 0 ∷ 0
+    ∷ 0 ∷ 0 ∷ 0 ∷ 0 ∷ 0 ∷ 0 ∷ 0 ∷ 0 ∷ 125 ∷ 0 ∷ 0 ∷ 0 ∷ 232 ∷ 3 ∷ 0 ∷ 0 ∷ 94 ∷ 1 ∷ 0 ∷ 0 ∷ 0 ∷ 0 ∷ 0 ∷ 0
+    ∷ 0 ∷ 0 ∷ 0 ∷ 0 ∷ 0 ∷ 0 ∷ 0 ∷ 0 ∷ 125 ∷ 0 ∷ 0 ∷ 0 ∷ 232 ∷ 3 ∷ 0 ∷ 0 ∷ 238 ∷ 2 ∷ 0 ∷ 0 ∷ 0 ∷ 0 ∷ 0 ∷ 0
+    ∷ 0 ∷ 0 ∷ 0 ∷ 0 ∷ 0 ∷ 0 ∷ 0 ∷ 0 ∷ 75 ∷ 0 ∷ 0 ∷ 0 ∷ 232 ∷ 3 ∷ 0 ∷ 0 ∷ 232 ∷ 3 ∷ 0 ∷ 0 ∷ 0 ∷ 0 ∷ 0 ∷ 0
+    ∷ [])
+
+abbrev pub TableABook : Type 0
+TableABook = bookOf (tableWords tableA) ≡ bookA
 
 -- 'For table a of document 01 the whole output is the four lines 3 200, 1 325, 2 450, 0 575'
 abbrev pub TableAListed : Type 0
-TableAListed = Listed (bookOf (rowsOf tableA))
+TableAListed = Listed bookA
     (51 ∷ 32 ∷ 50 ∷ 48 ∷ 48 ∷ 10
     ∷ 49 ∷ 32 ∷ 51 ∷ 50 ∷ 53 ∷ 10
     ∷ 50 ∷ 32 ∷ 52 ∷ 53 ∷ 48 ∷ 10
     ∷ 48 ∷ 32 ∷ 53 ∷ 55 ∷ 53 ∷ 10
     ∷ [])
+
+-- 'A refusal is one line, such as refused 8': for the table of case i it is this one
+abbrev pub CaseIListed : Type 0
+CaseIListed = Listed (bookOf (tableWords tableI)) (114 ∷ 101 ∷ 102 ∷ 117 ∷ 115 ∷ 101 ∷ 100 ∷ 32 ∷ 56 ∷ 10 ∷ [])
 
 -- ---- the proofs
 
@@ -87,10 +106,21 @@ foundA = 3 ∷ 1 ∷ 2 ∷ 0 ∷ drop 4 blank
 abbrev figuresA : List ℕ
 figuresA = 575 ∷ 325 ∷ 450 ∷ 200 ∷ drop 4 blank
 
+pub table-a-book : TableABook
+table-a-book = refl
+
 pub table-a-listed : TableAListed
-unfolding readRefusal blank decimal tableRefusal shapeRefusal ragged limit badField firstBad sizeAllowed orderRefusal badEntry resumes lowest orElse anyBelow bandKey bitTimes mem base demand over load ceil reckon climb decLe ℕ-discrete same-list follow leads rising
+unfolding bookRefusal blank decimal tableRefusal shapeRefusal ragged limit badField firstBad sizeAllowed orderRefusal badEntry resumes lowest orElse anyBelow bandKey bitTimes mem base demand over load ceil reckon climb decLe ℕ-discrete same-list follow leads rising
 table-a-listed =
     record {
       unread = λ r e. absurd (let z : _≡_ {A = ℕ} 0 1 = cc in omega arith);
-      listed = λ e. found foundA figuresA 5 (answer 100 0 0) (searched (rowsOf tableA) blank foundA (answer 102 5 0) tt) (judged (rowsOf tableA) (3 ∷ 1 ∷ 2 ∷ 0 ∷ []) blank figuresA (answer 100 0 0) tt) refl;
+      listed = λ e. found foundA figuresA 5 (answer 100 0 0) (searched (tableWords tableA) blank foundA (answer 102 5 0) tt) (judged (tableWords tableA) (3 ∷ 1 ∷ 2 ∷ 0 ∷ []) blank figuresA (answer 100 0 0) tt) refl;
+    }
+
+pub case-i-listed : CaseIListed
+unfolding bookRefusal blank decimal tableRefusal shapeRefusal ragged limit badField firstBad sizeAllowed orderRefusal badEntry resumes lowest orElse anyBelow bandKey bitTimes mem base demand over load ceil reckon climb decLe ℕ-discrete same-list follow leads rising
+case-i-listed =
+    record {
+      unread = λ r e. absurd (let z : _≡_ {A = ℕ} 0 1 = cc in omega arith);
+      listed = λ e. none (NoOrder 2 2) blank (searched (tableWords tableI) blank blank (answer 8 2 2) tt) refl;
     }

@@ -34,14 +34,14 @@ module _ (t : ℕ) where
   one c = decimal-short (c .before .before .args .n) (c .if1 .taken)
 
   returns : put-decimal-lts.Need-returns (asked t, put-decimal.Post) (given t) put-decimal.Post
-  returns c = (ap (λ (l : List ℕ). c .before .before .args .end + length l) (sym (one c)), ap (sets (c .before .before .args .text .now) (c .before .before .args .end)) (sym (one c)))
+  returns c = (ap (λ (l : List ℕ). c .before .before .args .at + length l) (sym (one c)), ap (sets (c .before .before .args .text .now) (c .before .before .args .at)) (sym (one c)))
 
   requires : put-decimal-lts.Need-put-decimal-requires (asked t, put-decimal.Post) (given t) put-decimal.Post
   requires c κs = (subst (λ (m : ℕ). c .before .before .before .args .n / 10 < m) (c .before .before .before .pre .0) (omega (arith, c .before .if1 .left)), omega (arith, c .before .before .before .pre .1, long-length (c .before .before .before .args .n) (c .before .if1 .left)))
 
   -- the last digit stands behind the others, inside the text
   kept : (c : put-decimal-lts.After-slice-known2 (asked t, put-decimal.Post) (given t) put-decimal.Post) → length (c .before .before .put-decimal .last .0) ≡ length (c .before .before .before .before .before .before .args .text .now)
-  kept c = ap length (c .before .before .put-decimal .ensures .1) ∙ length-sets (c .before .before .before .before .before .before .args .text .now) (c .before .before .before .before .before .before .args .end) (decimal (c .before .before .before .before .before .before .args .n / 10))
+  kept c = ap length (c .before .before .put-decimal .ensures .1) ∙ length-sets (c .before .before .before .before .before .before .args .text .now) (c .before .before .before .before .before .before .args .at) (decimal (c .before .before .before .before .before .before .args .n / 10))
 
   place : (c : put-decimal-lts.After-slice-known2 (asked t, put-decimal.Post) (given t) put-decimal.Post) → c .before .before .put-decimal .result < length (c .before .before .put-decimal .last .0)
   place c = omega (arith, c .before .before .put-decimal .ensures .0, c .before .before .before .before .before .before .pre .1, long-length (c .before .before .before .before .before .before .args .n) (c .before .before .before .before .if1 .left), kept c)
@@ -51,7 +51,7 @@ module _ (t : ℕ) where
       let a = c .before .before .before .before .before .before .args in
       let e = c .before .before .put-decimal .ensures in
       let digits = decimal-long (a .n) (c .before .before .before .before .if1 .left) in
-      (omega (arith, e .0, long-length (a .n) (c .before .before .before .before .if1 .left)), ap₂ (λ (l : List ℕ) (p : ℕ). set l p (48 + a .n % 10)) (e .1) (e .0) ∙ sym (sets-append (a .text .now) (a .end) (decimal (a .n / 10)) ((48 + a .n % 10) ∷ [])) ∙ ap (sets (a .text .now) (a .end)) (sym digits))
+      (omega (arith, e .0, long-length (a .n) (c .before .before .before .before .if1 .left)), ap₂ (λ (l : List ℕ) (p : ℕ). set l p (48 + a .n % 10)) (e .1) (e .0) ∙ sym (sets-append (a .text .now) (a .at) (decimal (a .n / 10)) ((48 + a .n % 10) ∷ [])) ∙ ap (sets (a .text .now) (a .at)) (sym digits))
 
 pub +put-decimal-spec : {M : Type 1} → statement M
 +put-decimal-spec =
@@ -66,7 +66,7 @@ pub +put-decimal-spec : {M : Type 1} → statement M
     (λ c. omega (arith, c .if1 .taken))
     (λ c. omega (arith, c .before .before .pre .1, ap length (one t c)))
     (λ c. omega (arith, c .before .before .pre .1, ap length (one t c)))
-    (λ c. length-set (c .before .before .args .text .now) (c .before .before .args .end) (48 + c .before .before .args .n))
+    (λ c. length-set (c .before .before .args .text .now) (c .before .before .args .at) (48 + c .before .before .args .n))
     (returns t)
     (requires t)
     (λ c. omega arith)

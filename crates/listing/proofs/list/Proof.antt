@@ -1,5 +1,6 @@
 -- `listing::list` meets its contract: the book is read and its words are listed, or the refusal. Assumes nothing.
 use borrow.Author.Needs.{needs}
+use native.Mathlib.Nat.{le-refl}
 use native.Mathlib.Omega.{arith}
 use Prim.Native.Nat.{ℕ, _≤_, _*_}
 use mathlib.Core.Path.{_≡_, sym, ap, subst, _∙_}
@@ -8,10 +9,12 @@ use lib.ListN.{length, take, replicate}
 use Rattle.licence.specs.Limit.{limit}
 use Rattle.intake.specs.Answer.{Answer, answer, refusalAnswer}
 use Rattle.intake.specs.Told.{refusal-small}
+use Rattle.book.specs.Laws.{read-no-book, book-read}
+use Rattle.book.specs.Read.{WordsRead, words-read}
 use Rattle.book.specs.Replies.{BookRead, readingAnswer}
 use Rattle.listing.specs.Text.{refusedLine}
 use Rattle.listing.specs.Listed.{WordsListed, Listed}
-use Rattle.listing.specs.Laws.{WordsRead, words-read, text-stands, refused-most, counts}
+use Rattle.listing.specs.Laws.{text-stands, refused-most, counts}
 use Rattle.listing.proofs.list.Statement.{statement}
 use Rattle.listing.proofs.list.Tie as tie
 
@@ -35,8 +38,8 @@ returns c =
     let read = subst (BookRead book (replicate (6 * limit) 0) (c .before .before .before .before .before .before .read .last .1 .0)) (ap readingAnswer (c .before .before .before .reading .given .1)) (c .before .before .before .before .before .before .read .ensures) in
     let e = c .put-refusal .ensures in
     let t = text-stands (Listed book) (c .before .before .before .before .before .before .before .before .before .args .text .now) (refusedLine (refusalAnswer r .number)) (e .0) (e .1) (omega (arith, refused-most r, c .before .put-refusal-arg .given .0 .1)) (record {
-      unread = λ x q. ap (λ (a : Answer). refusedLine (a .number)) (read .refusing x q .0);
-      listed = λ q. absurd (omega (arith, refusal-small r, ap (λ (a : Answer). a .number) (read .answering q .0)));
+      unread = λ x q. ap (λ (a : Answer). refusedLine (a .number)) (read .refusing x (read-no-book book (6 * limit) q) .0);
+      listed = λ q. absurd (omega (arith, refusal-small r, ap (λ (a : Answer). a .number) (read .answering (book-read book (6 * limit) (le-refl (6 * limit)) q) .0)));
     }) in
     (counts _ (t .inside), t)
 
@@ -49,7 +52,7 @@ returns-2 c =
       record {
         inside = t .inside;
         text = record {
-          unread = λ r q. absurd (let z : _≡_ {A = ℕ} 0 1 = cc in omega arith);
+          unread = λ r q. absurd (let y = sym (x .is) ∙ q in let z : _≡_ {A = ℕ} 0 1 = cc in omega arith);
           listed = λ q. subst (λ (w : List ℕ). WordsListed w (take (c .list-words .result) (c .list-words .last .1 .1 .0))) (x .there) (t .text);
         };
         behind = t .behind;

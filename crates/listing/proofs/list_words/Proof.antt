@@ -10,7 +10,7 @@ use Rattle.finder.specs.Searched.{Searched, findingAnswer}
 use Rattle.judge.specs.Judged.{Judged, judgementAnswer}
 use Rattle.listing.specs.Text.{lines, refusedLine}
 use Rattle.listing.specs.Listed.{blank, WordsListed, none, found}
-use Rattle.listing.specs.Laws.{RowsOnce, found-rows, text-stands, refused-most, counts}
+use Rattle.listing.specs.Laws.{RowNumbers, found-rows, text-stands, refused-most, counts}
 use Rattle.listing.proofs.list_words.Statement.{statement}
 use Rattle.listing.proofs.list_words.Tie as tie
 
@@ -19,18 +19,18 @@ searched : (c : tie.After-enum-told) → Searched (c .before .before .before .be
 unfolding blank limit
 searched c = subst (λ (a : Answer). Searched (c .before .before .before .before .before .before .before .args .words .now) blank (c .before .before .before .find .last .1 .0) a) (ap findingAnswer (c .enum-told .given .1)) (c .before .before .before .find .ensures)
 
-rows-once : (c : tie.After-enum-told) → RowsOnce (c .before .before .before .before .before .before .before .args .n) (take (c .before .before .before .before .before .before .before .args .n) (c .before .before .before .find .last .1 .0))
-rows-once c = subst (λ (k : ℕ). RowsOnce k (take k (c .before .before .before .find .last .1 .0))) (sym (c .before .before .before .before .before .before .before .pre .0)) (found-rows _ blank _ _ (searched c) refl)
+row-numbers : (c : tie.After-enum-told) → RowNumbers (c .before .before .before .before .before .before .before .args .n) (take (c .before .before .before .before .before .before .before .args .n) (c .before .before .before .find .last .1 .0))
+row-numbers c = subst (λ (k : ℕ). RowNumbers k (take k (c .before .before .before .find .last .1 .0))) (sym (c .before .before .before .before .before .before .before .pre .0)) (found-rows _ blank _ _ (searched c) refl)
 
 -- the lists have room for the rows
 order-room : (c : tie.After-enum-told) → c .before .before .before .before .before .before .before .args .n ≤ length (c .before .before .before .find .last .1 .0)
 unfolding limit
-order-room c = omega (arith, rows-once c .few, c .before .before .before .find .kept .1 .0)
+order-room c = omega (arith, row-numbers c .few, c .before .before .before .find .kept .1 .0)
 
 put-lines-requires : tie.Need-put-lines-requires
 unfolding limit
 put-lines-requires c κs =
-    let x = rows-once (c .before .before .before .before .before .before .before) in
+    let x = row-numbers (c .before .before .before .before .before .before .before) in
     ((λ p l. omega (arith, x .range p (omega (arith, x .long)), x .few, c .before .before .before .before .judge .kept .1 .1 .0)), omega (arith, x .long, x .few, c .before .before .before .before .before .before .before .before .before .before .before .before .before .before .pre .1))
 
 returns : tie.Need-returns
@@ -45,7 +45,7 @@ returns c =
 returns-2 : tie.Need-returns-2
 unfolding blank limit
 returns-2 c =
-    let x = rows-once (c .before .before .before .before .before .before .before .before .before .before) in
+    let x = row-numbers (c .before .before .before .before .before .before .before .before .before .before) in
     let a = c .before .before .before .before .before .before .before .before .before .before .before .before .before .before .before .before .before .args in
     let n = c .before .before .before .before .before .before .before .before .before .before .before .before .before .before .before .before .before .pre .0 in
     let order = c .before .before .before .before .before .before .before .before .before .before .before .before .before .find .last .1 .0 in

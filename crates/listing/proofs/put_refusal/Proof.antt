@@ -8,7 +8,7 @@ use lib.ListN.{length, set, length-set}
 use lib.Seq.{sets, length-sets}
 use Rattle.intake.specs.Answer.{Answer, refusalAnswer}
 use Rattle.intake.specs.Told.{refusal-small}
-use Rattle.listing.specs.Text.{decimal, word}
+use Rattle.listing.specs.Text.{decimal, refusedWord}
 use Rattle.listing.specs.TextLaws.{decimal-length, refused-length, refused-stored}
 use Rattle.listing.proofs.put_refusal.Statement.{statement}
 use Rattle.listing.proofs.put_refusal.Tie as tie
@@ -22,10 +22,10 @@ digits c = decimal-length 1 (c .refusal-reply .result .number) (omega (arith, nu
 
 -- the text with the word, and then with the number
 abbrev start : tie.Start → List ℕ
-start c = sets (c .args .text .now) 0 word
+start c = sets (c .args .text .now) 0 refusedWord
 
 kept : (c : tie.After-put-decimal) → length (c .put-decimal .last .0) ≡ length (c .before .before .before .before .args .text .now)
-kept c = ap length (c .put-decimal .ensures .1) ∙ length-sets (start (c .before .before .before .before)) 8 (decimal (c .before .refusal-reply .result .number)) ∙ length-sets (c .before .before .before .before .args .text .now) 0 word
+kept c = ap length (c .put-decimal .ensures .1) ∙ length-sets (start (c .before .before .before .before)) 8 (decimal (c .before .refusal-reply .result .number)) ∙ length-sets (c .before .before .before .before .args .text .now) 0 refusedWord
 
 returns : tie.Need-returns
 returns c =
@@ -47,7 +47,7 @@ put-refusal-spec =
     (λ c. simp length-set (omega (arith, c .before .pre)))
     (λ c. simp length-set (omega (arith, c .before .pre)))
     (λ c κs. search needs)
-    (λ c κs. omega (arith, digits c, c .before .before .before .pre, length-sets (c .before .before .before .args .text .now) 0 word))
+    (λ c κs. omega (arith, digits c, c .before .before .before .pre, length-sets (c .before .before .before .args .text .now) 0 refusedWord))
     (λ c. omega (arith, kept (c .before .before), c .before .before .put-decimal .ensures .0, digits (c .before .before .before), c .before .before .before .before .before .before .pre))
     (λ c. omega (arith, kept (c .before .before), c .before .before .put-decimal .ensures .0, digits (c .before .before .before), c .before .before .before .before .before .before .pre))
     (λ c. length-set (c .before .before .put-decimal .last .0) (c .before .before .put-decimal .result) 10 ∙ kept (c .before .before))
