@@ -88,8 +88,9 @@ telhavina_reply telhavina_find(const uint32_t *table, size_t table_len,
  * Reads a book of licences: a table as a file.
  *
  * book     the row count in two bytes, 1 to 64; the offset of each row from the book's start, four bytes a row; all high byte
- *          first. Then the rows at once and in order, 24 bytes each: six words of four bytes, low byte first. The book ends with the
- *          last row, so it has 2 + 28 bytes a row.
+ *          first. Then, with nothing between, the rows in order, 24 bytes each: the six words of a row as for judging, four bytes a
+ *          word, low byte first. Row i of n starts at 2 + 4n + 24i, and the book ends with the last: it has 2 bytes and 28 more for
+ *          each row, 30 for one row and 1,794 for 64.
  * words    room for six words a row, or more. Places past the last row's are never written.
  *
  * Each list is a pointer, not null and that of the words aligned, and then its length in bytes or in words; of a list of length
@@ -107,7 +108,7 @@ telhavina_reply telhavina_book_read(const uint8_t *book, size_t book_len,
  * byte.
  *
  * words    six words a row, 1 to 64 rows, any words
- * book     room for 2 + 28 bytes a row, or more. Bytes past the book's last are never written.
+ * book     room for 2 bytes and 28 more for each row, or more. Bytes past the book's last are never written.
  *
  * The lists are lent as for reading, and may not overlap.
  */
