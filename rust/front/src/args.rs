@@ -3,7 +3,12 @@
 use std::ffi::OsString;
 use std::path::PathBuf;
 
+use crate::alike::{but_for_a_slip, but_for_case, did_you_mean};
+use crate::load::Source;
 use crate::shown::Quoted;
+
+/// The names of the commands.
+const COMMANDS: [&str; 5] = ["judge", "find", "pack", "unpack", "help"];
 
 /// What is asked for.
 #[derive(Debug, Clone, PartialEq, Eq)]
@@ -13,24 +18,24 @@ pub enum Command {
     /// Judge an order of the table in this file.
     Judge {
         /// The file.
-        file: PathBuf,
+        file: Source,
         /// The order as it was written; if there is none, that of the file.
         order: Option<String>,
     },
     /// Find an order for the table in this file.
     Find {
         /// The file.
-        file: PathBuf,
+        file: Source,
     },
     /// Make a book of the CSV in this file.
     Pack {
         /// The file.
-        file: PathBuf,
+        file: Source,
     },
     /// Make a CSV of the book in this file.
     Unpack {
-        /// The file; if there is none, the standard input.
-        file: Option<PathBuf>,
+        /// The file.
+        file: Source,
     },
 }
 
@@ -55,10 +60,20 @@ pub struct Usage {
 /// Reads the arguments that follow the name of the program.
 pub fn read(args: Vec<OsString>) -> Result<Request, Usage> {
     let words = sort(args);
-    let json = words.json;
+    // Where a file is made, an object would end up in it.
+    let json = words.json && made_by(&words.name()).is_none();
     match command(words) {
         Ok(command) => Ok(Request { command, json }),
         Err(message) => Err(Usage { message, json }),
+    }
+}
+
+/// The kind of file that the command of this name makes, if it makes one.
+fn made_by(name: &str) -> Option<&'static str> {
+    match name {
+        "pack" => Some("a book"),
+        "unpack" => Some("a CSV"),
+        _ => None,
     }
 }
 
@@ -68,10 +83,38 @@ struct Words {
     json: bool,
     help: bool,
     unknown: Option<String>,
-    plain: Vec<OsString>,
+    plain: Vec<Plain>,
 }
 
-/// After `--`, nothing is an option.
+/// An argument that is no option.
+enum Plain {
+    /// A dash: in the place of a file, the standard input.
+    Dash,
+    /// Any other, or a dash that is meant as it stands.
+    Text(OsString),
+}
+
+impl Plain {
+    fn text(self) -> OsString {
+        match self {
+            Plain::Dash => "-".into(),
+            Plain::Text(text) => text,
+        }
+    }
+}
+
+impl Words {
+    /// The name of the command, empty if there is none.
+    fn name(&self) -> String {
+        match self.plain.first() {
+            Some(Plain::Text(name)) => name.to_string_lossy().to_string(),
+            Some(Plain::Dash) => "-".to_string(),
+            None => String::new(),
+        }
+    }
+}
+
+/// After `--`, nothing is an option, and a dash is a dash.
 fn sort(args: Vec<OsString>) -> Words {
     let mut words = Words::default();
     let mut options = true;
@@ -80,96 +123,99 @@ fn sort(args: Vec<OsString>) -> Words {
             Some("--") if options => options = false,
             Some("--json") if options => words.json = true,
             Some("--help" | "-h") if options => words.help = true,
-            Some(option) if options && option.starts_with('-') && option != "-" => {
+            Some("-") if options => words.plain.push(Plain::Dash),
+            Some(option) if options && option.starts_with('-') => {
                 words.unknown.get_or_insert(option.to_string());
             }
-            _ => words.plain.push(arg),
+            _ => words.plain.push(Plain::Text(arg)),
         }
     }
     words
 }
 
 fn command(words: Words) -> Result<Command, String> {
-    let mut plain = words.plain.into_iter();
-    let name = plain.next();
-    let name = name.as_ref().map(|name| name.to_string_lossy());
-    if words.help || name.as_deref() == Some("help") {
+    let name = words.name();
+    if words.help || name == "help" {
         return Ok(Command::Help);
+    }
+    if let Some(kind) = made_by(&name).filter(|_| words.json) {
+        return Err(format!("{name} takes no --json: its answer is {kind}"));
     }
     if let Some(option) = words.unknown {
         let hint = "an ORDER or a file that starts with - comes after --";
         return Err(format!("there is no option {} ({hint})", Quoted(&option)));
     }
-    match name.as_deref() {
-        Some("judge") => judge(plain),
-        Some("find") => find(plain),
-        Some("pack") => without_json(pack(plain)?, words.json, "pack", "a book"),
-        Some("unpack") => without_json(unpack(plain)?, words.json, "unpack", "a CSV"),
-        Some(other) => Err(format!("there is no command {}", Quoted(other))),
-        None => Err("a command is missing: judge, find, pack, unpack or --help".to_string()),
+    let has_name = !words.plain.is_empty();
+    let after = words.plain.into_iter().skip(1);
+    match name.as_str() {
+        "judge" => judge(after),
+        "find" => find(after),
+        "pack" => pack(after),
+        "unpack" => unpack(after),
+        other if has_name => Err(unknown(other)),
+        _ => Err("a command is missing: judge, find, pack, unpack or --help".to_string()),
     }
 }
 
-/// The command, unless JSON is asked for: its answer is this kind of file, and nothing else.
-fn without_json(command: Command, json: bool, name: &str, kind: &str) -> Result<Command, String> {
-    match json {
-        true => Err(format!("{name} takes no --json: its answer is {kind}")),
-        false => Ok(command),
+fn unknown(name: &str) -> String {
+    let said = format!("there is no command {}", Quoted(name));
+    let names = || COMMANDS.into_iter();
+    match but_for_case(name, names()).or_else(|| but_for_a_slip(name, names())) {
+        Some(meant) => format!("{said}; {}", did_you_mean(meant)),
+        None => said,
     }
 }
 
-fn judge(mut plain: impl Iterator<Item = OsString>) -> Result<Command, String> {
-    let file = file(plain.next(), "judge TABLE.csv")?;
-    let order = match plain.next().map(OsString::into_string) {
+fn judge(mut after: impl Iterator<Item = Plain>) -> Result<Command, String> {
+    let file = file(after.next(), "judge TABLE.csv")?;
+    let order = match after.next().map(|order| order.text().into_string()) {
         None => None,
         Some(Ok(order)) => Some(order),
         Some(Err(_)) => return Err("the ORDER is not UTF-8".to_string()),
     };
-    match plain.next() {
+    match after.next() {
         None => Ok(Command::Judge { file, order }),
         Some(more) => Err(format!(
             "judge takes one file and one ORDER, and {} is one argument too many (an ORDER with \
              blanks in it stands in quotes)",
-            Quoted(&more.to_string_lossy())
+            Quoted(&more.text().to_string_lossy())
         )),
     }
 }
 
-fn find(mut plain: impl Iterator<Item = OsString>) -> Result<Command, String> {
-    let file = file(plain.next(), "find TABLE.csv")?;
-    no_more(plain, "find")?;
+fn find(mut after: impl Iterator<Item = Plain>) -> Result<Command, String> {
+    let file = file(after.next(), "find TABLE.csv")?;
+    no_more(after, "find")?;
     Ok(Command::Find { file })
 }
 
-fn pack(mut plain: impl Iterator<Item = OsString>) -> Result<Command, String> {
-    let file = file(plain.next(), "pack TABLE.csv > BOOK")?;
-    no_more(plain, "pack")?;
+fn pack(mut after: impl Iterator<Item = Plain>) -> Result<Command, String> {
+    let file = file(after.next(), "pack TABLE.csv > BOOK")?;
+    no_more(after, "pack")?;
     Ok(Command::Pack { file })
 }
 
-fn unpack(mut plain: impl Iterator<Item = OsString>) -> Result<Command, String> {
-    let file = match plain.next() {
-        None => None,
-        Some(dash) if dash == "-" => None,
-        arg => Some(file(arg, "unpack BOOK > TABLE.csv")?),
-    };
-    no_more(plain, "unpack")?;
+/// Without a file, it is the standard input that is unpacked.
+fn unpack(mut after: impl Iterator<Item = Plain>) -> Result<Command, String> {
+    let file = file(after.next().or(Some(Plain::Dash)), "unpack BOOK > TABLE.csv")?;
+    no_more(after, "unpack")?;
     Ok(Command::Unpack { file })
 }
 
-fn file(arg: Option<OsString>, expected: &str) -> Result<PathBuf, String> {
+fn file(arg: Option<Plain>, expected: &str) -> Result<Source, String> {
     match arg {
-        Some(file) if !file.is_empty() => Ok(PathBuf::from(file)),
+        Some(Plain::Dash) => Ok(Source::Input),
+        Some(Plain::Text(file)) if !file.is_empty() => Ok(Source::Path(PathBuf::from(file))),
         _ => Err(format!("the file is missing: telhavina {expected}")),
     }
 }
 
-fn no_more(mut plain: impl Iterator<Item = OsString>, command: &str) -> Result<(), String> {
-    match plain.next() {
+fn no_more(mut after: impl Iterator<Item = Plain>, command: &str) -> Result<(), String> {
+    match after.next() {
         None => Ok(()),
         Some(more) => Err(format!(
             "{command} takes one file and nothing else, and {} is one argument too many",
-            Quoted(&more.to_string_lossy())
+            Quoted(&more.text().to_string_lossy())
         )),
     }
 }

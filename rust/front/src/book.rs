@@ -5,6 +5,7 @@ use telhavina::{Reading, Writing};
 
 use crate::book_refusal;
 use crate::fault::Fault;
+use crate::lines::is_wide;
 use crate::refusal;
 use crate::table::{Message, Table, MOST_ROWS};
 
@@ -15,15 +16,18 @@ const OFFSET: usize = 4;
 /// A row itself, in bytes.
 const BODY: usize = 24;
 
-/// Whether a file with these bytes is a book and not a text: there is a NUL among its first two. They
-/// are the row count, whose high byte is zero for as many rows as are allowed; and a text has no NUL.
-/// One that was saved as UTF-16 has, after a letter: the reader of texts has the words for that.
+/// Whether a file with these bytes is a book and not a text. A book starts with its row count, whose
+/// high byte is zero for as many rows as are allowed; a low one of zero is taken for that of a book
+/// too, after a control character. Of texts, only one in UTF-16 can start so, and it has no NUL. A
+/// book that starts like one has at most 13 * 256 rows (a CR), so that the offset of row 0, next to
+/// the count, is less than 2^16: its first two bytes are zero, and in UTF-16 a NUL.
 pub fn is_book(bytes: &[u8]) -> bool {
-    match bytes {
+    let is_count = match bytes {
         [0, ..] => true,
         [first, 0, ..] => first.is_ascii_control(),
         _ => false,
-    }
+    };
+    is_count && !is_wide(bytes)
 }
 
 /// The table in a book of these bytes. It has no bit rate, and no names but the numbers of the rows.
@@ -56,6 +60,12 @@ pub(crate) fn length(rows: usize) -> usize {
     start(rows, rows)
 }
 
+/// How many rows a book of so many bytes has, if there is such a book.
+pub(crate) fn rows_of_length(bytes: usize) -> Option<usize> {
+    let rows = bytes.checked_sub(COUNT)? / (OFFSET + BODY);
+    (rows > 0 && length(rows) == bytes).then_some(rows)
+}
+
 /// Where this row starts in a book of so many rows.
 pub(crate) fn start(row: usize, rows: usize) -> usize {
     COUNT + OFFSET * rows + BODY * row
@@ -75,7 +85,7 @@ pub(crate) fn said_start(book: &[u8], row: usize) -> Option<u32> {
 
 #[cfg(test)]
 mod tests {
-    use super::{is_book, length, read, said_rows, said_start, start, write};
+    use super::{is_book, length, read, rows_of_length, said_rows, said_start, start, write};
     use crate::table::{Length, Queue};
 
     /// Two rows, the second of a form that no CSV tells.
@@ -89,16 +99,54 @@ mod tests {
     }
 
     #[test]
-    fn told_by_the_first_two_bytes() {
+    fn told_by_its_start() {
         for bytes in [b"\0".as_slice(), b"\0\0", b"\0\x01", b"\0n", b"\x01\0", b"\x01\0\0"] {
             assert!(is_book(bytes), "{bytes:?}");
         }
         for bytes in [b"".as_slice(), b"n", b"na\0", b"\xFF\xFE", b"\x01\x01\0"] {
             assert!(!is_book(bytes), "{bytes:?}");
         }
-        // How a text in UTF-16 starts: its header, or a comment.
-        for bytes in [b"n\0a\0".as_slice(), b"#\0 \0"] {
+        // How a text in UTF-16 starts: its header, a comment, or a blank line.
+        let wide = [b"n\0a\0".as_slice(), b"#\0 \0", b"\0n\0a", b"\0#\0 ", b"\n\0n\0", b"\0\n\0n"];
+        for bytes in wide {
             assert!(!is_book(bytes), "{bytes:?}");
+        }
+    }
+
+    /// A book of so many rows, allowed or not.
+    fn of_rows(rows: usize) -> Vec<u8> {
+        let count = u16::try_from(rows).expect("a row count").to_be_bytes();
+        let offsets = (0..rows).map(|row| u32::try_from(start(row, rows)).expect("an offset"));
+        let mut book: Vec<u8> =
+            count.into_iter().chain(offsets.flat_map(u32::to_be_bytes)).collect();
+        // No NUL in the rows: all is up to what comes before them.
+        book.resize(length(rows), b'a');
+        book
+    }
+
+    #[test]
+    fn no_book_looks_like_a_text() {
+        for rows in (1..256).chain((256..32 * 256).step_by(256)).chain([127 * 256]) {
+            let book = of_rows(rows);
+            let least = if rows < 256 { 1 } else { 2 };
+            assert!((least..book.len().min(3000)).all(|end| is_book(&book[..end])), "{rows} rows");
+            assert!(is_book(&book), "{rows} rows");
+        }
+    }
+
+    // A book whose count could be a character has so many offsets that one NUL more or less among
+    // them does not matter.
+    #[test]
+    fn nor_does_one_with_a_damaged_byte() {
+        for rows in 1..=64 {
+            let book = of_rows(rows);
+            for (at, byte) in
+                (1..book.len()).flat_map(|at| [0, 1, b'a', 255].map(|byte| (at, byte)))
+            {
+                let mut damaged = book.clone();
+                damaged[at] = byte;
+                assert!(is_book(&damaged), "{rows} rows, {byte} at {at}");
+            }
         }
     }
 
@@ -124,5 +172,7 @@ mod tests {
         }
         assert_eq!((said_start(&book[..9], 1), said_start(b"\0", 0)), (None, None));
         assert_eq!((length(1), length(4)), (30, 114));
+        assert_eq!((rows_of_length(30), rows_of_length(114)), (Some(1), Some(4)));
+        assert_eq!([0, 1, 2, 29, 31, 113].map(rows_of_length), [None; 6]);
     }
 }

@@ -2,7 +2,7 @@
 
 use telhavina::Refusal;
 
-use crate::book::{length, said_rows, said_start, start};
+use crate::book::{length, rows_of_length, said_rows, said_start, start};
 use crate::fault::Fault;
 use crate::shown::count;
 use crate::table::MOST_ROWS;
@@ -18,7 +18,7 @@ pub fn in_words(refusal: Refusal, book: &[u8]) -> Fault {
             Some(format!("the book says that it has no row; {WAY_OUT}"))
         }
         (Refusal::EmptyBook, None) => Some(too_short(book)),
-        (Refusal::TooMany, Some(rows)) => Some(too_many(rows)),
+        (Refusal::TooMany, Some(rows)) => Some(too_many(book, rows)),
         (Refusal::BookLength, Some(rows)) => Some(other_length(book, rows)),
         (Refusal::BookOffset { row }, Some(rows)) => other_start(book, row, rows),
         _ => None,
@@ -37,8 +37,18 @@ fn too_short(book: &[u8]) -> String {
     }
 }
 
-fn too_many(rows: usize) -> String {
-    format!("the book says that it has {rows} rows, and at most {MOST_ROWS} are allowed")
+fn too_many(book: &[u8], rows: usize) -> String {
+    let said =
+        format!("the book says that it has {rows} rows, and at most {MOST_ROWS} are allowed");
+    let bytes = book.len();
+    match rows_of_length(bytes) {
+        Some(true_rows) if true_rows == rows => said,
+        Some(true_rows) => {
+            let true_rows = count(true_rows, "row");
+            format!("{said}; and it has {bytes} bytes, as a book of {true_rows} has; {WAY_OUT}")
+        }
+        None => format!("{said}; {WAY_OUT}"),
+    }
 }
 
 fn other_length(book: &[u8], rows: usize) -> String {

@@ -7,6 +7,7 @@ usage: telhavina judge TABLE.csv [ORDER] [--json]
        telhavina pack TABLE.csv > BOOK
        telhavina unpack [BOOK] > TABLE.csv
        telhavina --help
+       In the place of a file, - is standard input; a file called - is ./- (or - after --).
 ";
 
 /// How it is called, and all that an officer has to know.
@@ -20,6 +21,7 @@ usage
   telhavina unpack [BOOK] > TABLE.csv          make a table of a book
   telhavina --help                             show this text
   To judge and find, a book can stand in the place of TABLE.csv.
+  In the place of a file, - is standard input; a file called - is ./- (or - after --).
 
 ORDER
   The messages from the highest priority to the lowest, in one argument with commas between them:
@@ -49,13 +51,22 @@ the file
 
 the book
   The same table as yards send it, in a binary file. It has no names and no bit rate: its messages
-  are called row0, row1 and so on, and its times are whole bit times. A file is taken for a book if
-  one of its first two bytes is zero: in every book one is, and in no text.
+  are called row0, row1 and so on, and its times are whole bit times. Send the bit rate along with
+  it: nobody can tell it from the book.
   pack      Writes the book of a table to standard output, but not to a screen. Times are rounded
-            as above. Rows that judge would refuse are written as well.
-  unpack    Writes the table of a book to standard output. Without BOOK, or with - in its place,
-            the book comes from standard input. Packed, the table gives the same book again. If a
-            length is neither bits, std nor ext, a table cannot hold it, and nothing is written.
+            as above. Rows with numbers out of range (refusal 3) are written as well, if they fit
+            32 bits. BOOK has to be another file than TABLE.csv: the shell empties it first.
+  unpack    Writes the table of a book to standard output. Without BOOK, the book comes from
+            standard input. Packed, the table gives the same book again; but once its lines are
+            moved, the message called rowN is no longer row N of the book. If a length is neither
+            bits, std nor ext, a table cannot hold it, and nothing is written. TABLE.csv has to be
+            another file than BOOK.
+  Its bytes, for n rows: the row count, 2 bytes; for each row its offset, 4 bytes, where row i
+  starts at 2 + 4n + 24i; these high byte first. Then for each row six words of 4 bytes, low byte
+  first: queue (0: priority), form (0: bits, 1: std, 2: ext), size, period, deadline, jitter.
+  2 + 28n bytes in all. A file is taken for a book if its first byte is zero, or its second after a
+  control character, unless it looks like UTF-16 text: a book has two zero bytes after the row
+  count, and a text has no NUL character.
 
 the answer
   A table, highest priority first, then the verdict.
@@ -81,12 +92,15 @@ the JSON object
   and, with a bit rate, figure_ms, allowed_ms, slack_ms. A late one has null for figure and slack.
   Without a bit rate, bitrate is null. Where there is no line or no column to name, the key is
   left out, as always for a book: there, the text of message tells the row and the field. Places
-  and rows count from 0, lines from 1. To pack and unpack, there is no --json.
+  and rows count from 0, lines from 1. To pack and unpack, there is no --json: it is a wrong command
+  line, and standard error says so.
 
 exit status
   0  passed, or found; packed, or unpacked
   1  late, or no order
-  2  refused, or not readable: the reason is on standard error (with --json, in the object)
+  2  refused, or not readable; a wrong command line; an answer that cannot be written (to judge and
+     find, a reader that leaves early is none): the reason is on standard error or, with --json, in
+     the object, if that can be written
 
 examples
   telhavina pack examples/table_a.csv > table_a.book

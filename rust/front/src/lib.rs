@@ -6,6 +6,7 @@
 //! shown. All that is decided about a table is decided there, by the proved library; only what
 //! cannot be put into words of 32 bits is turned down here, or a word that cannot be put into a CSV.
 
+mod alike;
 pub mod answer;
 pub mod args;
 pub mod book;
@@ -30,11 +31,11 @@ pub mod table;
 
 use std::ffi::OsString;
 use std::io::Read;
-use std::path::Path;
 
 use answer::Answer;
 use args::{Command, Request, Usage};
 use fault::Fault;
+use load::Source;
 use report::Report;
 use shown::Shown;
 use table::Table;
@@ -44,11 +45,9 @@ use table::Table;
 pub const GOOD: u8 = 0;
 /// The exit status of an answer that is no: late, or no order.
 pub const NOT_GOOD: u8 = 1;
-/// The exit status where there is no answer: refused, or not readable.
+/// The exit status where there is no answer: refused, not readable, not asked for in the right way,
+/// or not to be written.
 pub const REFUSED: u8 = 2;
-
-/// What stands for the name of a file that comes in without one.
-const STANDARD_INPUT: &str = "standard input";
 
 /// What the program is connected to.
 pub struct Streams<'a> {
@@ -69,17 +68,24 @@ pub struct Said {
     pub err: String,
     /// The exit status.
     pub status: u8,
+    /// Whether the output is a file, and of no use unless it gets through as a whole.
+    pub is_file: bool,
 }
 
 impl Said {
     /// This answer, and nothing on the standard error.
     fn answer(out: impl Into<Vec<u8>>, status: u8) -> Said {
-        Said { out: out.into(), err: String::new(), status }
+        Said { out: out.into(), err: String::new(), status, is_file: false }
+    }
+
+    /// This file, and nothing on the standard error.
+    fn file(out: Vec<u8>) -> Said {
+        Said { is_file: true, ..Said::answer(out, GOOD) }
     }
 
     /// No answer, and the reason on the standard error.
     fn complaint(err: String) -> Said {
-        Said { out: Vec::new(), err, status: REFUSED }
+        Said { out: Vec::new(), err, status: REFUSED, is_file: false }
     }
 }
 
@@ -92,21 +98,23 @@ pub fn run(args: Vec<OsString>, streams: &mut Streams) -> Said {
     match command {
         Command::Help => Said::answer(help::HELP, GOOD),
         Command::Judge { file, order } => {
-            reply(&file, json, |table| answer::judge(table, order.as_deref()))
+            reply(&file, streams, json, |table| answer::judge(table, order.as_deref()))
         }
-        Command::Find { file } => reply(&file, json, answer::find),
-        Command::Pack { file } => converted(Some(&file), convert::pack(&file, streams)),
-        Command::Unpack { file } => {
-            let file = file.as_deref();
-            converted(file, convert::unpack(file, streams))
-        }
+        Command::Find { file } => reply(&file, streams, json, answer::find),
+        Command::Pack { file } => converted(&file, convert::pack(&file, streams)),
+        Command::Unpack { file } => converted(&file, convert::unpack(&file, streams)),
     }
 }
 
 /// What is said to this question about the table in this file.
-fn reply(file: &Path, json: bool, ask: impl FnOnce(&Table) -> Result<Answer, Fault>) -> Said {
-    let name = file.to_string_lossy();
-    let answered = load::load(file).and_then(|bytes| {
+fn reply(
+    file: &Source,
+    streams: &mut Streams,
+    json: bool,
+    ask: impl FnOnce(&Table) -> Result<Answer, Fault>,
+) -> Said {
+    let name = file.name();
+    let answered = file.load(streams.input).and_then(|bytes| {
         let table = table::of_file(&bytes)?;
         let answer = ask(&table)?;
         Ok((table, answer))
@@ -116,7 +124,7 @@ fn reply(file: &Path, json: bool, ask: impl FnOnce(&Table) -> Result<Answer, Fau
             let status = if answer.is_good() { GOOD } else { NOT_GOOD };
             let out = match json {
                 true => json::answer(&name, &table, &answer),
-                false => Report { file: &name, table: &table, answer: &answer }.to_string(),
+                false => Report { file, table: &table, answer: &answer }.to_string(),
             };
             Said::answer(out, status)
         }
@@ -125,12 +133,11 @@ fn reply(file: &Path, json: bool, ask: impl FnOnce(&Table) -> Result<Answer, Fau
     }
 }
 
-/// What is said where this file, or the standard input, was to be turned into another file.
-fn converted(file: Option<&Path>, made: Result<Vec<u8>, Fault>) -> Said {
-    let name = file.map_or(STANDARD_INPUT.into(), Path::to_string_lossy);
+/// What is said where this file was to be turned into another.
+fn converted(file: &Source, made: Result<Vec<u8>, Fault>) -> Said {
     match made {
-        Ok(made) => Said::answer(made, GOOD),
-        Err(fault) => Said::complaint(complaint(&name, &fault)),
+        Ok(made) => Said::file(made),
+        Err(fault) => Said::complaint(complaint(&file.name(), &fault)),
     }
 }
 

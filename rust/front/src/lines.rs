@@ -3,10 +3,14 @@
 use crate::fault::{Column, Fault};
 
 const BYTE_ORDER_MARK: &[u8] = b"\xEF\xBB\xBF";
-/// How UTF-16 starts, in both byte orders.
+/// How UTF-16 starts, in both byte orders, where it has a mark.
 const WIDE: [&[u8]; 2] = [b"\xFF\xFE", b"\xFE\xFF"];
 /// What to do about a CR.
 const SAVE_WITH_LF: &str = "save the file with LF line ends";
+/// What to put in the place of a character that is not allowed.
+const PLAIN: &str = "expected plain text and blanks";
+/// What to do about bytes that are no text from the start.
+const OR_A_BOOK: &str = "if it is meant to be a book, it is damaged: ask for it again";
 
 /// One line of a file.
 #[derive(Debug, Clone, Copy, PartialEq, Eq)]
@@ -57,11 +61,13 @@ enum Ends {
 }
 
 fn line(bytes: &[u8], number: usize, ends: Ends) -> Result<Line<'_>, Fault> {
-    if number == 1 {
-        refuse_marks(bytes)?;
-    }
     let text = match str::from_utf8(bytes) {
         Ok(text) => text,
+        // What is no text from the start need not have been meant as one, and has no columns.
+        Err(_) if number == 1 => {
+            let message = format!("not UTF-8 text: save a table as UTF-8; {OR_A_BOOK}");
+            return Err(Fault::new(message));
+        }
         Err(error) => {
             let before = bytes.get(..error.valid_up_to()).unwrap_or(bytes);
             let fault = Fault::new("not UTF-8 text: save the file as UTF-8");
@@ -83,18 +89,34 @@ fn line(bytes: &[u8], number: usize, ends: Ends) -> Result<Line<'_>, Fault> {
             Fault::new(format!("the line ends in CR LF: {SAVE_WITH_LF}"))
         }
         ('\r', Ends::Lf) => not_allowed(SAVE_WITH_LF),
-        _ => not_allowed("expected plain text and blanks"),
+        // Also here: a book without a byte above 127 is UTF-8, but never without a NUL.
+        _ if number == 1 && text.contains('\0') => {
+            Fault::new(format!("{what} is not allowed: {PLAIN}; {OR_A_BOOK}"))
+        }
+        _ => not_allowed(PLAIN),
     })
 }
 
-/// Some programs put such marks before a text; they would become part of what is read first.
-fn refuse_marks(bytes: &[u8]) -> Result<(), Fault> {
+/// Whether these bytes look like a text in UTF-16 without a mark, in either byte order: at least two
+/// characters, the first of them one that a table can start with, and no NUL among all of them.
+pub fn is_wide(bytes: &[u8]) -> bool {
+    let first = match bytes {
+        [0, first, _, _, ..] | [first, 0, _, _, ..] => first,
+        _ => return false,
+    };
+    let is_text = first.is_ascii_graphic() || b" \t\r\n".contains(first);
+    is_text && bytes.chunks(2).all(|character| character != [0, 0])
+}
+
+/// Some programs save a text otherwise, or put marks before it that would become part of what is
+/// read first.
+pub fn refuse_other_encodings(bytes: &[u8]) -> Result<(), Fault> {
     if bytes.starts_with(BYTE_ORDER_MARK) {
         return Err(Fault::new(
             "the file starts with a byte-order mark: save it as UTF-8 without one",
         ));
     }
-    if WIDE.iter().any(|mark| bytes.starts_with(mark)) {
+    if is_wide(bytes) || WIDE.iter().any(|mark| bytes.starts_with(mark)) {
         return Err(Fault::new("the file looks like UTF-16: save it as UTF-8"));
     }
     Ok(())
@@ -130,7 +152,7 @@ fn strange(c: char) -> Option<String> {
 
 #[cfg(test)]
 mod tests {
-    use super::{lines, Line};
+    use super::{is_wide, lines, Line};
     use crate::fault::{Column, Fault};
 
     fn first_fault(bytes: &[u8]) -> Fault {
@@ -155,6 +177,34 @@ mod tests {
         assert_eq!((fault.line, fault.column), (Some(1), Some(Column::Name)));
         // Past the last column there is none to name.
         assert_eq!(first_fault(b",,,,,,\x07").column, None);
+    }
+
+    // Bytes that are no text from the start: a book whose first byte is damaged, or packed.
+    #[test]
+    fn no_text_from_the_start() {
+        let book = "; if it is meant to be a book, it is damaged: ask for it again";
+        let no_text = format!("line 1: not UTF-8 text: save a table as UTF-8{book}");
+        for bytes in [b"\x1F\x8B\x08\0".as_slice(), b"a,b\xFF\nc", b"\x80\x01\0\0\0\x06"] {
+            assert_eq!(first_fault(bytes).to_string(), no_text);
+        }
+        let control = "line 1: the control character U+0001 is not allowed: ";
+        let expected = format!("{control}expected plain text and blanks{book}");
+        assert_eq!(first_fault(b"\x01\x01\0\0\0\x06").to_string(), expected);
+    }
+
+    #[test]
+    fn both_byte_orders_of_utf_16() {
+        for text in ["name,queue", "# a note\n", "#網", "#\u{100}", "\n\nname", "\r\n#", " n", "nø"]
+        {
+            let low: Vec<u8> = text.encode_utf16().flat_map(u16::to_le_bytes).collect();
+            let high: Vec<u8> = text.encode_utf16().flat_map(u16::to_be_bytes).collect();
+            assert!(is_wide(&low) && is_wide(&high), "{text}");
+            assert!(!is_wide(text.as_bytes()), "{text}");
+            assert!(!is_wide(&[&high[..], b"\0\0"].concat()), "{text}");
+        }
+        for bytes in [b"".as_slice(), b"\0", b"\0n", b"\0n\0", b"\0\x01\0n", b"\0n\0\0\0\x01"] {
+            assert!(!is_wide(bytes), "{bytes:?}");
+        }
     }
 
     #[test]

@@ -5,7 +5,7 @@ use std::env;
 use std::io::{self, ErrorKind, IsTerminal, Write};
 use std::process::ExitCode;
 
-use front::{run, Streams, REFUSED};
+use front::{run, Said, Streams, REFUSED};
 
 fn main() -> ExitCode {
     let mut streams = Streams {
@@ -16,13 +16,18 @@ fn main() -> ExitCode {
     let said = run(env::args_os().skip(1).collect(), &mut streams);
     complain(&said.err);
     match answer(&said.out) {
-        // A reader that has seen enough and left is no trouble of ours: the verdict stands.
-        Err(error) if error.kind() != ErrorKind::BrokenPipe => {
+        Err(error) if is_failure(&error, &said) => {
             complain(&format!("telhavina: the answer could not be written: {error}\n"));
             ExitCode::from(REFUSED)
         }
         _ => ExitCode::from(said.status),
     }
+}
+
+/// A reader that has seen enough of a report and left is no trouble of ours: the verdict stands. Of
+/// a file, no part is enough.
+fn is_failure(error: &io::Error, said: &Said) -> bool {
+    said.is_file || error.kind() != ErrorKind::BrokenPipe
 }
 
 fn answer(bytes: &[u8]) -> io::Result<()> {

@@ -2,6 +2,7 @@
 
 use std::collections::BTreeMap;
 
+use crate::alike::{but_for_case, did_you_mean};
 use crate::fault::Fault;
 use crate::lines::trimmed;
 use crate::shown::Quoted;
@@ -91,12 +92,8 @@ impl<'a> Names<'a> {
                  too many?"
             ));
         }
-        let small = entry.to_lowercase();
-        let alike = self.rows.keys().find(|name| name.to_lowercase() == small);
-        let hint = match alike {
-            Some(name) => format!("did you mean {}?", Quoted(name)),
-            None => self.known(),
-        };
+        let alike = but_for_case(entry, self.rows.keys().copied());
+        let hint = alike.map_or_else(|| self.known(), did_you_mean);
         Fault::new(format!(
             "ORDER entry {} (place {place}) is neither a name nor a row number of the file; {hint}",
             Quoted(entry)
@@ -128,12 +125,12 @@ impl<'a> Names<'a> {
     }
 }
 
-/// The order as one argument of a shell, in quotes where it has to be.
-pub fn as_argument(order: &str) -> String {
+/// The text, an order or a file, as one argument of a shell, in quotes where it has to be.
+pub fn as_argument(text: &str) -> String {
     let is_plain = |c: char| c.is_alphanumeric() || "_-.,:/+@%".contains(c);
-    match order.chars().all(is_plain) {
-        true => order.to_string(),
-        false => format!("'{}'", order.replace('\'', "'\\''")),
+    match text.chars().all(is_plain) {
+        true => text.to_string(),
+        false => format!("'{}'", text.replace('\'', "'\\''")),
     }
 }
 

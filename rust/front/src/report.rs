@@ -3,6 +3,7 @@
 use std::fmt;
 
 use crate::answer::{Answer, Judged, Verdict};
+use crate::load::Source;
 use crate::order::{as_argument, Names};
 use crate::rate::Rate;
 use crate::shown::{count, Shown};
@@ -18,15 +19,10 @@ const NOT_LATE: &str = "  ";
 /// A longer name stands out to the right, rather than pushing all the others that far.
 const WIDEST: usize = 200;
 
-/// Where there is no order, there is no table to go by: what gives one.
-const NEXT_STEP: &str =
-    "next: telhavina judge TABLE.csv [ORDER] shows which messages are late, and \
-                         what each is allowed";
-
 /// The answer on the table of this file.
 pub struct Report<'a> {
-    /// The name of the file.
-    pub file: &'a str,
+    /// The file.
+    pub file: &'a Source,
     /// The table in it.
     pub table: &'a Table,
     /// What is said of it.
@@ -36,9 +32,10 @@ pub struct Report<'a> {
 impl fmt::Display for Report<'_> {
     fn fmt(&self, f: &mut fmt::Formatter) -> fmt::Result {
         let messages = count(self.table.messages.len(), "message");
+        let name = self.file.name();
         match self.table.rate {
-            Some(rate) => writeln!(f, "{}: {messages}, {rate}", Shown(self.file))?,
-            None => writeln!(f, "{}: {messages}, times in bit times", Shown(self.file))?,
+            Some(rate) => writeln!(f, "{}: {messages}, {rate}", Shown(&name))?,
+            None => writeln!(f, "{}: {messages}, times in bit times", Shown(&name))?,
         }
         if !self.answer.judged.is_empty() {
             self.table(f)?;
@@ -92,9 +89,21 @@ impl Report<'_> {
             }
             Verdict::NoOrder { unplaced, tried } => {
                 let bands = count(unplaced, "band");
-                writeln!(f, "no order: {bands} cannot be placed, {tried} tried\n{NEXT_STEP}")
+                writeln!(f, "no order: {bands} cannot be placed, {tried} tried")?;
+                self.next_step(f)
             }
         }
+    }
+
+    /// Where there is no order, there is no table to go by: what gives one.
+    fn next_step(&self, f: &mut fmt::Formatter) -> fmt::Result {
+        let argument = as_argument(&self.file.argument());
+        writeln!(
+            f,
+            "next: telhavina judge {} [ORDER] shows which messages are late, and what each is \
+             allowed",
+            Shown(&argument)
+        )
     }
 }
 
@@ -140,12 +149,14 @@ fn aligned(cells: &[String], widths: &[usize]) -> String {
 mod tests {
     use super::Report;
     use crate::answer::{find, judge};
+    use crate::load::Source;
     use crate::table::read;
 
     fn shown(text: &str) -> String {
         let table = read(text.as_bytes()).expect("a table");
         let answer = judge(&table, None).expect("an answer");
-        Report { file: "a\nb.csv", table: &table, answer: &answer }.to_string()
+        let file = &Source::Path("a\nb.csv".into());
+        Report { file, table: &table, answer: &answer }.to_string()
     }
 
     #[test]
@@ -167,13 +178,22 @@ mod tests {
         let text = "name,queue,length,period,deadline,jitter\nA,priority,bits 10,19,19,0\n";
         let table = read(text.as_bytes()).expect("a table");
         let answer = find(&table).expect("an answer");
-        assert_eq!(
-            Report { file: "a.csv", table: &table, answer: &answer }.to_string(),
-            "a.csv: 1 message, times in bit times\n\
-             no order: 1 band cannot be placed, 1 tried\n\
-             next: telhavina judge TABLE.csv [ORDER] shows which messages are late, and what each \
-             is allowed\n"
-        );
+        let path = |path: &str| Source::Path(path.into());
+        for (file, name, argument) in [
+            (path("a.csv"), "a.csv", "a.csv"),
+            (path("the yard's\n"), "the yard's\\n", "'the yard'\\''s\\n'"),
+            (path("-a"), "-a", "./-a"),
+            (Source::Input, "standard input", "-"),
+        ] {
+            let report = Report { file: &file, table: &table, answer: &answer }.to_string();
+            let expected = format!(
+                "{name}: 1 message, times in bit times\n\
+                 no order: 1 band cannot be placed, 1 tried\n\
+                 next: telhavina judge {argument} [ORDER] shows which messages are late, and what \
+                 each is allowed\n"
+            );
+            assert_eq!(report, expected);
+        }
     }
 
     // Widths of more than 16 bits are more than the standard library would fill up to.

@@ -5,20 +5,21 @@ use std::collections::BTreeMap;
 use crate::cells::{length, queue, time};
 use crate::columns::{is_name, of_header, of_message};
 use crate::fault::{Column, Fault};
-use crate::lines::{lines, Line};
+use crate::lines::{lines, refuse_other_encodings, Line};
 use crate::rate::Rate;
 use crate::shown::Quoted;
 use crate::table::{Message, Table};
 
 /// The table in these bytes of a file, or what is wrong with the first line that is not right.
 pub fn read(bytes: &[u8]) -> Result<Table, Fault> {
+    if bytes.is_empty() {
+        return Err(empty().on_line(1));
+    }
+    refuse_other_encodings(bytes).map_err(|fault| fault.on_line(1))?;
     let mut rows = Rows::default();
     for line in lines(bytes) {
         let line = line?;
         rows.take(line).map_err(|fault| on_line(fault, line))?;
-    }
-    if bytes.is_empty() {
-        return Err(missing("the file is empty").on_line(1));
     }
     rows.table()
 }
@@ -90,6 +91,12 @@ fn on_line(fault: Fault, line: Line) -> Fault {
     }
     let way_out = "all cells of this line are empty: it can be deleted";
     Fault { message: format!("{}; {way_out}", fault.message), ..fault }
+}
+
+/// A shell makes the file before the program that is to fill it has said no.
+fn empty() -> Fault {
+    let fault = missing("the file is empty, neither a table nor a book");
+    Fault { message: format!("{}; did the pack that made it fail?", fault.message), ..fault }
 }
 
 fn missing(what: &str) -> Fault {

@@ -4,7 +4,7 @@
 mod common;
 
 use common::json::{self, Json};
-use common::{file, run, HEADER};
+use common::{file, root, run, HEADER};
 use tables::Prng;
 
 const GOOD: &str = "Rudder,priority,ext 8,1000,1000,0\n";
@@ -88,7 +88,14 @@ fn no_file() {
 
 #[test]
 fn nothing_in_it() {
-    unreadable("empty.csv", b"", 1, None, &["the file is empty", HEADER.trim()]);
+    let empty = ["the file is empty, neither a table nor a book: expected `", HEADER.trim()];
+    unreadable(
+        "empty.csv",
+        b"",
+        1,
+        None,
+        &[&empty[..], &["did the pack that made it fail?"]].concat(),
+    );
     unreadable("end.csv", b"\n", 1, None, &["no header line", HEADER.trim()]);
     unreadable("comments.csv", b"# a\n\n# b\n", 3, None, &["no header line"]);
     unreadable("header.csv", HEADER.as_bytes(), 1, None, &["no message follows"]);
@@ -121,9 +128,6 @@ fn headers() {
 fn not_plain_text() {
     let marked = [b"\xEF\xBB\xBF", HEADER.as_bytes(), GOOD.as_bytes()].concat();
     unreadable("mark.csv", &marked, 1, None, &["byte-order mark", "save it as UTF-8 without"]);
-    let wide: Vec<u8> = HEADER.encode_utf16().flat_map(u16::to_le_bytes).collect();
-    unreadable("wide.csv", &[b"\xFF\xFE", &wide[..]].concat(), 1, None, &["UTF-16"]);
-    unreadable("wide_bare.csv", &wide, 1, Some("name"), &["a NUL character"]);
     let dos = format!("{HEADER}{GOOD}").replace('\n', "\r\n");
     unreadable("dos.csv", dos.as_bytes(), 1, None, &["CR LF", "LF line ends"]);
     let old = dos.replace('\n', "");
@@ -135,6 +139,41 @@ fn not_plain_text() {
     let late = [HEADER.as_bytes(), GOOD.as_bytes(), b"A,priority,ext 8,9,9\xC3,0\n"].concat();
     unreadable("cut.csv", &late, 3, Some("deadline"), &["not UTF-8"]);
     unreadable("noted.csv", b"# \x1B[2J\n", 1, None, &["control character U+001B"]);
+}
+
+// In both byte orders, with a mark and without; also to pack.
+#[test]
+fn utf_16() {
+    let said = ["the file looks like UTF-16: save it as UTF-8"];
+    for text in [HEADER, "# bitrate 250000\n", "#網\n", "\n# a\n", "\u{feff}name,queue\n"] {
+        let text = format!("{text}{HEADER}{GOOD}");
+        for wide in [u16::to_le_bytes, u16::to_be_bytes] {
+            let bytes: Vec<u8> = text.encode_utf16().flat_map(wide).collect();
+            unreadable("wide.csv", &bytes, 1, None, &said);
+            let path = file("wide_pack.csv", &bytes);
+            let packed = run(&["pack", &path]);
+            assert_eq!((&packed.err, packed.out.as_str()), (&run(&["find", &path]).err, ""));
+        }
+    }
+}
+
+// What is no text from the start has no columns, and may have been meant as a book.
+#[test]
+fn neither_text_nor_book() {
+    let book = "if it is meant to be a book, it is damaged: ask for it again";
+    let no_text = format!("not UTF-8 text: save a table as UTF-8; {book}");
+    let mut damaged = std::fs::read(root().join("examples/table_a.book")).expect("an example");
+    for first in [0x01, b'A', 0x80, 0xFF] {
+        damaged[0] = first;
+        unreadable("first.book", &damaged, 1, None, &[&no_text]);
+    }
+    let gzipped = b"\x1F\x8B\x08\0\0\0\0\0\0\x03\x63\x60\x61\x60\x60\x10\x02\0";
+    unreadable("book.gz", gzipped, 1, None, &[&no_text]);
+    unreadable("latin.csv", b"# K\xFChlraum\n", 1, None, &[&no_text]);
+    // Where each byte alone is text, it is the NULs that show it.
+    let mut small = common::books::book(&[0, 0, 100, 100, 100, 0]);
+    small[0] = 1;
+    unreadable("small.book", &small, 1, None, &["U+0001 is not allowed", book]);
 }
 
 #[test]
@@ -305,7 +344,8 @@ fn noise(bytes: usize) -> Vec<u8> {
 
 #[test]
 fn too_large() {
-    let parts = &["larger than 1 MiB"];
+    let parts =
+        &["larger than 1 MiB", "and the largest book has 1794 bytes: is it the right file?"];
     let bytes = &noise(10_000_000);
     let bad = Bad { bytes, line: None, column: None, number: None, parts };
     turned_down("noise.csv", &bad);

@@ -109,6 +109,13 @@ fn there_and_back() {
     tally.expect("answers on their books", &all);
 }
 
+/// What starts like a book is none only where no two bytes make a NUL of UTF-16.
+fn looks_like_utf_16(bytes: &[u8], line: &str) -> String {
+    assert!(line.contains("looks like UTF-16 text, not a book"), "{line}");
+    assert!(bytes.len() >= 4 && bytes.chunks(2).all(|unit| unit != [0, 0]), "{bytes:?}");
+    "UTF-16".to_string()
+}
+
 /// Unpacking these bytes: they come back from the CSV, or the reason is the one that is due.
 fn check_unpack(test: &str, bytes: &[u8]) -> String {
     let mut words = [0; 6 * MOST_ROWS];
@@ -128,8 +135,11 @@ fn check_unpack(test: &str, bytes: &[u8]) -> String {
         }
         (Reading::Refused(_), None) => {
             let is_none = line.contains("not a book") || line.contains("neither a book");
-            assert!(is_none && !bytes.starts_with(b"\0"), "{line}");
-            "no book".to_string()
+            assert!(is_none, "{line}");
+            match bytes.starts_with(b"\0") {
+                true => looks_like_utf_16(bytes, &line),
+                false => "no book".to_string(),
+            }
         }
         (Reading::Read { rows }, number) => {
             let forms = words.iter().skip(1).step_by(6).take(rows);

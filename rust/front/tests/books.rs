@@ -80,7 +80,7 @@ fn no_book(name: &str, bytes: &[u8], number: u32, parts: &[&str]) {
 #[test]
 fn unpacked_from_a_file_or_from_the_input() {
     assert_eq!(unpacked(BOOK_A), UNPACKED_A);
-    for args in [&["unpack"][..], &["unpack", "-"], &["unpack", "--"], &["--", "unpack", "-"]] {
+    for args in [&["unpack"][..], &["unpack", "-"], &["unpack", "--"], &["unpack", "-", "--"]] {
         let said = run_on(args, BOOK_A);
         assert_eq!((said.out.as_str(), said.err.as_str(), said.status), (UNPACKED_A, "", Some(0)));
     }
@@ -148,7 +148,25 @@ fn damaged_books() {
     no_book("b.book", &[b"\0\0", &three[2..]].concat(), 20, &["no row"]);
     let most = format!("has {} rows, and at most {MOST_ROWS} are allowed", MOST_ROWS + 1);
     no_book("b.book", &book(&[ROW; MOST_ROWS + 1].concat()), 2, &[&most]);
-    no_book("b.book", b"\x02\0", 2, &["the book says that it has 512 rows"]);
+    // Where the length is that of so many rows, nothing is damaged.
+    let path = file("b.book", &book(&[ROW; MOST_ROWS + 1].concat()));
+    assert!(run(&["find", &path]).err.ends_with("are allowed\n"));
+    let no_length =
+        "has 512 rows, and at most 64 are allowed; the book is damaged: ask for it again";
+    no_book("b.book", b"\x02\0", 2, &[no_length]);
+    no_book("b.book", &[b"\x02\0", &three[2..85]].concat(), 2, &[no_length]);
+    let other_length =
+        "has 512 rows, and at most 64 are allowed; and it has 86 bytes, as a book of \
+                        3 rows has; the book is damaged: ask for it again";
+    no_book("b.book", &[b"\x02\0", &three[2..]].concat(), 2, &[other_length]);
+    no_book("b.book", &[b"\0\xFF", &book(&ROW)[2..]].concat(), 2, &["as a book of 1 row has; "]);
+    // A count of 256 rows is one of a book, too.
+    no_book(
+        "b.book",
+        &book(&[ROW; 256].concat()),
+        2,
+        &["has 256 rows, and at most 64 are allowed"],
+    );
     let cut = ["has 3 rows, which would make 86 bytes, and it has 85: 1 byte is missing"];
     no_book("b.book", &three[..85], 21, &cut);
     no_book("b.book", &three[..2], 21, &["and it has 2: 84 bytes are missing", "ask for it again"]);
@@ -211,8 +229,14 @@ fn a_book_that_splits_a_fifo() {
 
 #[test]
 fn files_of_the_other_kind() {
-    turned_down(&run(&["pack", BOOK_A]), BOOK_A, &["this is a book already"]);
-    turned_down(&run(&["pack", "examples/damaged.book"]), "examples/damaged.book", &["a book"]);
+    for path in [BOOK_A, "examples/damaged.book"] {
+        let said = run(&["pack", path]);
+        turned_down(&said, path, &["this looks like a book, not a table: judge and find take it"]);
+        assert!(said.err.ends_with("as it is, and unpack says what is in it\n"), "{said:?}");
+    }
+    let wide: Vec<u8> = HEADER.encode_utf16().flat_map(u16::to_be_bytes).collect();
+    let wide = file("wide.book", &wide);
+    turned_down(&run(&["unpack", &wide]), &wide, &["this looks like UTF-16 text, not a book"]);
     let text = ["this is a text and not a book", "take a CSV as it is"];
     turned_down(&run(&["unpack", TABLE_A]), TABLE_A, &text);
     turned_down(&run_on(&["unpack"], TABLE_A), "standard input", &text);
@@ -229,7 +253,11 @@ fn nothing_to_read() {
     turned_down(&run(&["unpack", &empty]), &empty, &parts);
     turned_down(&run_on(&["unpack", "-"], &empty), "standard input", &parts);
     let said = run(&["pack", &empty]);
-    assert!(said.err.contains("line 1: the file is empty: expected `name,"), "{said:?}");
+    assert!(
+        said.err.contains("line 1: the file is empty, neither a table nor a book: "),
+        "{said:?}"
+    );
+    assert!(said.err.ends_with("; did the pack that made it fail?\n"), "{said:?}");
     for path in ["examples", "no/such/file.book"] {
         for command in ["pack", "unpack"] {
             turned_down(&run(&[command, path]), path, &["the file cannot be read: "]);
@@ -247,7 +275,10 @@ fn too_much_to_read() {
     let just = file("just.book", &[0; 1 << 20]);
     turned_down(&run(&["unpack", &just]), &just, &["refusal 20"]);
     #[cfg(target_os = "linux")]
-    turned_down(&run_on(&["unpack"], "/dev/zero"), "standard input", &["larger than 1 MiB"]);
+    for command in ["judge", "find", "pack", "unpack"] {
+        let said = run_on(&[command, "-"], "/dev/zero");
+        turned_down(&said, "standard input", &["larger than 1 MiB", "largest book has 1794 bytes"]);
+    }
 }
 
 // The faults of a CSV are those of judging it, as far as they are faults of reading.

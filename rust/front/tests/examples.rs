@@ -114,7 +114,8 @@ fn both_say_the_same() {
         let Some(messages) = object.find("messages") else {
             // What it is about, the verdict, and what to do next.
             assert_eq!(text.lines().count(), 3, "{name}");
-            assert!(text.contains("\nnext: telhavina judge TABLE.csv [ORDER] shows "), "{name}");
+            let next = format!("\nnext: telhavina judge {} [ORDER] shows ", path(example));
+            assert!(text.contains(&next), "{name}");
             continue;
         };
         let lines: Vec<&str> = text.lines().skip(2).collect();

@@ -12,6 +12,7 @@ use common::HEADER;
 use front::answer::{self, Answer, Verdict};
 use front::fault::Fault;
 use front::json as to_json;
+use front::load::Source;
 use front::report::Report;
 use front::table::{self, Table};
 use tables::Prng;
@@ -73,7 +74,7 @@ fn check_refused(bytes: &[u8], fault: &Fault, find: bool) {
 /// What would be printed: a line for each message, or one on what to do where there is no order;
 /// and JSON that holds the same names.
 fn check_shown(table: &Table, answer: &Answer) {
-    let text = Report { file: "made up", table, answer }.to_string();
+    let text = Report { file: &Source::Input, table, answer }.to_string();
     assert_eq!(text.lines().filter(|line| line.starts_with('!')).count(), answer.late());
     let rows = if answer.judged.is_empty() { 1 } else { answer.judged.len() + 1 };
     assert_eq!(text.lines().count(), rows + 2);

@@ -3,10 +3,11 @@
 mod common;
 
 use std::io;
+use std::path::Path;
 use std::process::Stdio;
 
 use common::json::{self, Json};
-use common::{command, file, run, said, HEADER};
+use common::{command, file, root, run, run_on, said, HEADER};
 
 const TABLE_A: &str = "examples/table_a.csv";
 
@@ -35,6 +36,38 @@ fn the_help_can_be_followed() {
     let table: String = lines.map(|line| format!("{}\n", line.trim())).collect();
     let said = run(&["find", &file("from_help.csv", table.as_bytes())]);
     assert_eq!(said.status, Some(0), "{said:?}");
+}
+
+// What can go wrong with a book without a word from the program is in the help, and the format.
+#[test]
+fn the_help_on_books() {
+    let help = run(&["--help"]).out;
+    let words = help.split_whitespace().collect::<Vec<_>>().join(" ");
+    for part in [
+        "BOOK has to be another file than TABLE.csv: the shell empties it first.",
+        "once its lines are moved, the message called rowN is no longer row N of the book.",
+        "Send the bit rate along with it",
+        "the row count, 2 bytes; for each row its offset, 4 bytes, where row i starts at 2 + 4n + \
+         24i; these high",
+        "these high byte first. Then for each row six words of 4 bytes, low byte first: queue ",
+        "size, period, deadline, jitter. 2 + 28n bytes in all.",
+        "Rows with numbers out of range (refusal 3) are written as well, if they fit 32 bits.",
+        "2 refused, or not readable; a wrong command line; an answer that cannot be written",
+        "In the place of a file, - is standard input; a file called - is ./- (or - after --).",
+        "if its first byte is zero, or its second after a control character, unless it looks like \
+         UTF-16 text",
+    ] {
+        assert!(words.contains(part), "{part} in {words}");
+    }
+    // The sums of the help, for the book that is there.
+    let made = std::fs::read(root().join("examples/table_a.book")).expect("an example");
+    let n = usize::from(u16::from_be_bytes([made[0], made[1]]));
+    assert_eq!((n, made.len()), (4, 2 + 28 * n));
+    for i in 0..n {
+        let offset = made[2 + 4 * i..][..4].try_into().expect("an offset");
+        assert_eq!(u32::from_be_bytes(offset) as usize, 2 + 4 * n + 24 * i);
+    }
+    assert_eq!(made[2 + 4 * n + 8..][..4], 125_u32.to_le_bytes());
 }
 
 /// The keys of this object as the help lists them, with those of an object in it after its own.
@@ -100,9 +133,14 @@ fn case_and_blanks_do_not_matter() {
 
 #[test]
 fn misuse() {
-    let cases: [(&[&str], &str); 17] = [
+    let cases: [(&[&str], &str); 22] = [
         (&[], "a command is missing"),
-        (&["jugde", TABLE_A], "no command `jugde`"),
+        (&["jugde", TABLE_A], "no command `jugde`; did you mean `judge`?"),
+        (&["unpak"], "no command `unpak`; did you mean `unpack`?"),
+        (&["PACK", TABLE_A], "no command `PACK`; did you mean `pack`?"),
+        (&["Hlep"], "no command `Hlep`; did you mean `help`?"),
+        (&["-"], "no command `-`"),
+        (&[""], "no command ``"),
         (&["judge"], "the file is missing"),
         (&["find"], "the file is missing"),
         (&["judge", ""], "the file is missing"),
@@ -124,6 +162,9 @@ fn misuse() {
         assert_eq!((said.out.as_str(), said.status), ("", Some(2)), "{args:?}");
         assert!(said.err.contains(part), "{said:?}");
         assert!(said.err.contains("usage: telhavina judge TABLE.csv [ORDER] [--json]"), "{said:?}");
+        if ["pack", "unpack"].iter().any(|command| args.first() == Some(command)) {
+            continue;
+        }
         // A program that asks for JSON is answered in JSON, and in nothing else.
         let mut args = args.to_vec();
         args.insert(0, "--json");
@@ -135,19 +176,90 @@ fn misuse() {
     }
 }
 
-// Where the answer is a file, a program that asks for JSON is told so, also in JSON.
+// Where the answer is a file, an object would end up in it: whatever is wrong, none is written.
 #[test]
 fn no_json_for_files() {
-    for (args, part) in [
-        (&["pack", TABLE_A, "--json"], "pack takes no --json: its answer is a book"),
-        (&["unpack", "--json", TABLE_A], "unpack takes no --json: its answer is a CSV"),
-    ] {
+    let (pack, unpack) = ("pack takes no --json: its answer is a book\n", "its answer is a CSV\n");
+    let cases: [(&[&str], &str); 6] = [
+        (&["pack", TABLE_A, "--json"], pack),
+        (&["--json", "pack"], pack),
+        (&["pack", "--jsn", "--json", TABLE_A], pack),
+        (&["pack", "--json", "no/such/file.csv"], pack),
+        (&["unpack", "--json", "examples/table_a.book"], unpack),
+        (&["--json", "unpack", "a.book", "b.csv"], unpack),
+    ];
+    for (args, part) in cases {
         let said = run(args);
-        assert_eq!((said.err.as_str(), said.status), ("", Some(2)), "{args:?}");
-        let object = json::read(&said.out);
-        assert_eq!(object.keys(), ["verdict", "message"]);
-        assert_eq!((object.get("verdict").text(), object.get("message").text()), ("usage", part));
+        assert_eq!((said.out.as_str(), said.status), ("", Some(2)), "{args:?}");
+        assert!(said.err.contains(part) && said.err.contains("\nusage: telhavina "), "{said:?}");
     }
+    assert_eq!(run(&["pack", "--json", "--help"]).status, Some(0));
+}
+
+/// What is said of the standard input, with the name of this file in the place of its own.
+fn said_of_input(args: &[&str], path: &str) -> common::Said {
+    let said = run_on(args, path);
+    let named = |text: &str| text.replace("standard input", path).replace("judge - [", "judge F [");
+    common::Said { out: named(&said.out), err: named(&said.err), ..said }
+}
+
+// A dash is the standard input to all commands, in answers and in complaints.
+#[test]
+fn a_dash_is_the_standard_input() {
+    for path in [TABLE_A, "examples/no_order.csv", "examples/table_a.book", "examples/damaged.book"]
+    {
+        for args in
+            [&["judge", "-"][..], &["judge", "-", "1,0"], &["find", "-"], &["find", "-", "--json"]]
+        {
+            let with_file: Vec<&str> =
+                args.iter().map(|&arg| if arg == "-" { path } else { arg }).collect();
+            let (input, file) = (said_of_input(args, path), run(&with_file));
+            let out = file.out.replace(&format!("judge {path} ["), "judge F [");
+            assert_eq!(
+                (input.out, input.err, input.status),
+                (out, file.err, file.status),
+                "{args:?}"
+            );
+        }
+    }
+    let packed = run_on(&["pack", "-"], "examples/late.csv");
+    assert_eq!((packed.err.as_str(), packed.status), ("", Some(0)));
+    assert!(packed.out.starts_with("\0\u{2}\0\0\0\u{a}"), "{packed:?}");
+    let bad = run_on(&["pack", "-"], "examples/table_a.book");
+    assert!(bad.err.starts_with("standard input: this looks like a book"), "{bad:?}");
+    let next = run_on(&["find", "-"], "examples/no_order.csv").out;
+    assert!(next.contains("\nnext: telhavina judge - [ORDER] shows "), "{next}");
+}
+
+// A file of that name can be had, and is no standard input; nor is an ORDER.
+#[test]
+fn a_file_called_dash() {
+    let rows = "-,priority,bits 10,100,100,0\n";
+    let directory = Path::new(env!("CARGO_TARGET_TMPDIR")).join("dash");
+    std::fs::create_dir_all(&directory).expect("a directory for the test");
+    file("dash/-", format!("{HEADER}{rows}").as_bytes());
+    let here = |args: &[&str]| {
+        let output = command().current_dir(&directory).args(args).stdin(Stdio::null()).output();
+        said(output.expect("the program runs"))
+    };
+    let cases: [(&[&str], &str); 4] = [
+        (&["judge", "--", "-"], "-: 1 message, "),
+        (&["--", "find", "-"], "-: 1 message, "),
+        (&["judge", "./-", "-"], "./-: 1 message, "),
+        (&["judge", "--", "-", "-"], "-: 1 message, "),
+    ];
+    for (args, start) in cases {
+        let said = here(args);
+        assert!(said.out.starts_with(start) && said.status == Some(0), "{said:?}");
+    }
+    for args in [["pack", "--", "-"], ["--", "pack", "-"]] {
+        assert_eq!(here(&args).status, Some(0), "{args:?}");
+    }
+    for args in [&["unpack", "--", "-"][..], &["--", "unpack", "-"], &["unpack", "./-"]] {
+        assert!(here(args).err.contains("-: this is a text and not a book"), "{args:?}");
+    }
+    let input = here(&["find", "-"]);
+    assert!(input.err.starts_with("standard input, line 1: the file is empty, "), "{input:?}");
 }
 
 #[test]
@@ -248,20 +360,34 @@ fn a_name_that_is_the_number_of_another() {
     assert_eq!(run(&["judge", &table, "01,00"]).status, Some(0));
 }
 
-// A reader that left before the answer came: no panic, and the verdict's own status.
+/// What is said where the reader left before the answer came.
+fn to_nobody(args: &[&str]) -> common::Said {
+    let (reader, writer) = io::pipe().expect("a pipe");
+    drop(reader);
+    let output = command().args(args).stdout(writer).stderr(Stdio::piped()).output();
+    said(output.expect("the program runs"))
+}
+
+// No panic, and the verdict's own status.
 #[test]
 fn a_closed_output() {
     for (args, status) in [
-        (&["find", "examples/deck.csv"], 0),
-        (&["find", "examples/no_order.csv"], 1),
-        (&["pack", "examples/deck.csv"], 0),
-        (&["unpack", "examples/table_a.book"], 0),
+        (["find", "examples/deck.csv"], 0),
+        (["find", "examples/no_order.csv"], 1),
+        (["judge", "examples/late.csv"], 1),
     ] {
-        let (reader, writer) = io::pipe().expect("a pipe");
-        drop(reader);
-        let output = command().args(args).stdout(writer).stderr(Stdio::piped()).output();
-        let said = said(output.expect("the program runs"));
+        let said = to_nobody(&args);
         assert_eq!((said.err.as_str(), said.status), ("", Some(status)), "{args:?}");
+    }
+}
+
+// A file that did not get through is none.
+#[test]
+fn a_closed_output_for_files() {
+    for args in [["pack", "examples/deck.csv"], ["unpack", "examples/table_a.book"]] {
+        let said = to_nobody(&args);
+        assert!(said.err.starts_with("telhavina: the answer could not be written: "), "{said:?}");
+        assert_eq!((said.err.lines().count(), said.status), (1, Some(2)), "{said:?}");
     }
 }
 
