@@ -8,7 +8,6 @@ use mathlib.Core.Logic.{_⊎_, inl, inr}
 use mathlib.Core.List.{List, [], _∷_, _++_}
 use lib.ListN.{length, take, drop, take-append-drop}
 use lib.Seq.{take-all, length-take-le}
-use lib.Dec.{T as Is}
 use Rattle.licence.specs.Limit.{limit}
 use Rattle.order.specs.Orders.{mem}
 use Rattle.order.specs.Lists.{mem-there}
@@ -42,10 +41,16 @@ OneListing = (book before after after′ : List ℕ) (r r′ : ℕ) → Stands (
 abbrev pub FirstBytesListed : Type 0
 FirstBytesListed = (input text : List ℕ) (k : ℕ) → size limit < k → Listed (take k input) text → Listed input text
 
--- A text shows lines, or it refuses by 3, 8, 20, 2, 21 or 22.
+-- the numbers that a book can be refused with, by finding and by reading
+abbrev pub refusals : List ℕ
+refusals = 3 ∷ 8 ∷ 20 ∷ 2 ∷ 21 ∷ 22 ∷ []
+
+-- A text shows lines, or it refuses by one of these.
+abbrev pub Says : List ℕ → Type 0
+Says text = ((order : List ℕ) × (figures : List ℕ) × (text ≡ lines order figures)) ⊎ ((k : ℕ) × OneOf refusals k × (text ≡ refusedLine k))
+
 abbrev pub SaysOnly : Type 0
-SaysOnly = (book text : List ℕ) → Listed book text
-    → ((order : List ℕ) × (figures : List ℕ) × (text ≡ lines order figures)) ⊎ ((k : ℕ) × OneOf (3 ∷ 8 ∷ 20 ∷ 2 ∷ 21 ∷ 22 ∷ []) k × (text ≡ refusedLine k))
+SaysOnly = (book text : List ℕ) → Listed book text → Says text
 
 -- ---- the proofs
 
@@ -88,29 +93,28 @@ first-bytes-listed input text k l x = go (decLe k (length input))
         }
 
 -- finding refuses the words of a book by 3 and 8 alone: they have the shape of a table, and there is room
-words-by : (book after : List ℕ) (r : Refusal) → bookRefusal book ≡ fine → Searched (wordsOf book) blank after (refusalAnswer r) → OneOf (3 ∷ 8 ∷ 20 ∷ 2 ∷ 21 ∷ 22 ∷ []) (refusalAnswer r .number)
+words-by : (book after : List ℕ) (r : Refusal) → bookRefusal book ≡ fine → Searched (wordsOf book) blank after (refusalAnswer r) → OneOf refusals (refusalAnswer r .number)
 unfolding mem blank limit
 words-by book after r e s = go (tableRefusal (wordsOf book) (length blank)) refl
   where
-    ends : (x : Ending) → Told x blank after (refusalAnswer r) → Is (mem (3 ∷ 8 ∷ 20 ∷ 2 ∷ 21 ∷ 22 ∷ []) (refusalAnswer r .number))
+    ends : (x : Ending) → Told x blank after (refusalAnswer r) → OneOf refusals (refusalAnswer r .number)
     ends (found o t) says = absurd (omega (arith, refusal-small r, ap (λ (a : Answer). a .number) (says .0)))
-    ends (none u t) says = subst (λ (a : Answer). Is (mem (3 ∷ 8 ∷ 20 ∷ 2 ∷ 21 ∷ 22 ∷ []) (a .number))) (sym (says .0)) tt
+    ends (none u t) says = subst (λ (a : Answer). OneOf refusals (a .number)) (sym (says .0)) tt
 
-    go : (c : Check) → tableRefusal (wordsOf book) (length blank) ≡ c → Is (mem (3 ∷ 8 ∷ 20 ∷ 2 ∷ 21 ∷ 22 ∷ []) (refusalAnswer r .number))
+    go : (c : Check) → tableRefusal (wordsOf book) (length blank) ≡ c → OneOf refusals (refusalAnswer r .number)
     go (refused a) q =
         let shape = words-shape book e in
         let three = ap (λ (x : Answer). x .number) (s .refusing a q .0) ∙ only-3 (wordsOf book) (length blank) shape refl (omega (arith, shaped (wordsOf book) shape .few)) q in
-        subst (λ (n : ℕ). Is (mem (3 ∷ 8 ∷ 20 ∷ 2 ∷ 21 ∷ 22 ∷ []) n)) (sym three) tt
+        subst (λ (n : ℕ). OneOf refusals n) (sym three) tt
     go fine q = let x = s .answering q in ends (x .ending) (x .told)
 
 pub says-only : SaysOnly
 says-only book text x = go (bookRefusal book) refl
   where
-    words : bookRefusal book ≡ fine → WordsListed (wordsOf book) text
-        → ((order : List ℕ) × (figures : List ℕ) × (text ≡ lines order figures)) ⊎ ((k : ℕ) × OneOf (3 ∷ 8 ∷ 20 ∷ 2 ∷ 21 ∷ 22 ∷ []) k × (text ≡ refusedLine k))
+    words : bookRefusal book ≡ fine → WordsListed (wordsOf book) text → Says text
     words e (listed-none r after s q) = inr (refusalAnswer r .number, words-by book after r e s, q)
     words e (listed-found order figures tried verdict s j q) = inl (take (rows (wordsOf book)) order, figures, q)
 
-    go : (c : Check) → bookRefusal book ≡ c → ((order : List ℕ) × (figures : List ℕ) × (text ≡ lines order figures)) ⊎ ((k : ℕ) × OneOf (3 ∷ 8 ∷ 20 ∷ 2 ∷ 21 ∷ 22 ∷ []) k × (text ≡ refusedLine k))
+    go : (c : Check) → bookRefusal book ≡ c → Says text
     go (refused r) e = inr (r .number, mem-there 3 _ (r .number) (mem-there 8 _ (r .number) (refused-by .1 book r e)), x .unread r e)
     go fine e = words e (x .listed e)
