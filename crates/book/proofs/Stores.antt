@@ -1,11 +1,11 @@
--- What is left to store, before and after one step: one byte, one entry. Assumes nothing.
+-- What is left to store of a number, before and after one byte of it is. Assumes nothing.
 use Prim.Native.Nat.{ℕ, suc, _+_, _-_, _/_, _%_, _<_}
 use native.Mathlib.Omega.{arith}
 use mathlib.Core.Path.{_≡_, refl, sym, ap, _∙_}
-use mathlib.Core.List.{List, [], _∷_}
+use mathlib.Core.List.{List}
 use lib.ListN.{set}
 use lib.Seq.{sets}
-use Rattle.book.specs.Bytes.{low, high, each}
+use Rattle.book.specs.Bytes.{low, high}
 use Rattle.book.specs.ByteLaws.{high-next, high-length}
 use Rattle.book.specs.ListLaws.{sets-last}
 
@@ -21,10 +21,3 @@ high-stored book p k rest l =
     ap (λ (w : ℕ). sets (set book (p + w) (rest % 256)) p (high (k - 1) (rest / 256))) (sym (high-length (k - 1) (rest / 256)))
     ∙ sym (sets-last book p (high (k - 1) (rest / 256)) (rest % 256))
     ∙ ap (sets book p) (sym (high-next (k - 1) rest) ∙ ap (λ (w : ℕ). high w rest) (sym left))
-
--- one entry of those from m to n - 1
-pub entry-stored : (l : List ℕ) (v : ℕ → ℕ) (m n : ℕ) → m < n → sets (set l m (v m)) (m + 1) (each (λ j. v j ∷ []) (m + 1) (n - (m + 1))) ≡ sets l m (each (λ j. v j ∷ []) m (n - m))
-entry-stored l v m n h =
-    let left : n - m ≡ suc (n - (m + 1)) = omega arith in
-    let there : suc m ≡ m + 1 = omega arith in
-    rw (left, ← there) refl

@@ -45,9 +45,13 @@ wordsIn book n = each (λ m. wordAt book n m ∷ []) 0 (6 * n)
 abbrev pub count : List ℕ → ℕ
 count book = fromHigh (part book 0 2)
 
--- what the contents say of row i is not so
+-- where the contents say that row i starts
+abbrev pub offsetAt : List ℕ → ℕ → ℕ
+offsetAt book i = fromHigh (part book (2 + 4 * i) 4)
+
+-- and that it is not so
 abbrev pub wrongOffset : List ℕ → Mask
-wrongOffset book i = not (eqb (fromHigh (part book (2 + 4 * i) 4)) (offset (count book) i))
+wrongOffset book i = not (eqb (offsetAt book i) (offset (count book) i))
 
 -- the words of a book, of as many rows as it says
 abbrev pub wordsOf : List ℕ → List ℕ

@@ -36,16 +36,16 @@ from-low-fits (b ∷ bytes) h = omega (arith, h 0, from-low-fits bytes (λ i. h 
 
 -- ---- the law of high byte first: the same from the other end
 
-module _ (most : ℕ) where
-  below-cons : (b : ℕ) (l : List ℕ) → b < most → Below most l → Below most (b ∷ l)
+module _ (bound : ℕ) where
+  below-cons : (b : ℕ) (l : List ℕ) → b < bound → Below bound l → Below bound (b ∷ l)
   below-cons b l h g zero = h
   below-cons b l h g (suc i) = g i
 
-  below-turned : (l r : List ℕ) → Below most l → Below most r → Below most (reverseAux l r)
+  below-turned : (l r : List ℕ) → Below bound l → Below bound r → Below bound (reverseAux l r)
   below-turned [] r h g = g
   below-turned (b ∷ l) r h g = below-turned l (b ∷ r) (λ i. h (suc i)) (below-cons b r (h 0) g)
 
-  below-reverse : (l : List ℕ) → 0 < most → Below most l → Below most (reverse l)
+  below-reverse : (l : List ℕ) → 0 < bound → Below bound l → Below bound (reverse l)
   below-reverse l p h = below-turned l [] h (λ i. p)
 
 pub from-high : (w v : ℕ) → v < 256 ^ w → fromHigh (high w v) ≡ v

@@ -17,8 +17,8 @@ use Rattle.intake.specs.Words.{rows}
 use Rattle.intake.specs.Answer.{Answer, answer, refused, fine, refuseIf}
 use Rattle.intake.specs.Refusals.{shapeRefusal}
 use Rattle.intake.specs.Laws.{then-fine, if-fine, at-fine, shaped, whole-words, by-six, shape-none}
-use Rattle.book.specs.Bytes.{low, high, fromHigh, part, laidOn}
-use Rattle.book.specs.Book.{offset, size, offsets, bodies, bookOf, wordAt, wordsIn, wordsOf, count, wrongOffset}
+use Rattle.book.specs.Bytes.{low, high, laidOn}
+use Rattle.book.specs.Book.{offset, size, offsets, bodies, bookOf, wordAt, wordsIn, wordsOf, count, offsetAt, wrongOffset}
 use Rattle.book.specs.Replies.{bookRefusal, readRefusal, writeRefusal}
 use Rattle.book.specs.ListLaws.{sets-append, sets-laid, each-length}
 
@@ -85,29 +85,42 @@ module _ (book : List ℕ) where
   unfolding bookRefusal
   book-short l = rw (lt-ltb (length book) 2 l)
 
+  -- each check that goes on, and the next
   module _ (long : 2 ≤ length book) where
+    is-long : ltb (length book) 2 ≡ false
+    is-long = le-ltb (length book) 2 long
+
     pub book-empty : count book ≡ 0 → bookRefusal book ≡ refused (answer 20 0 0)
     unfolding bookRefusal
-    book-empty z = rw (le-ltb (length book) 2 long, eq-eqb (count book) 0 z)
+    book-empty z = rw (is-long, eq-eqb (count book) 0 z)
 
     module _ (some : count book ≡ 0 → ⊥) where
+      has-rows : eqb (count book) 0 ≡ false
+      has-rows = ne-eqb (count book) 0 some
+
       pub book-many : limit < count book → bookRefusal book ≡ refused (answer 2 0 0)
       unfolding bookRefusal
-      book-many l = rw (le-ltb (length book) 2 long, ne-eqb (count book) 0 some, lt-ltb limit (count book) l)
+      book-many l = rw (is-long, has-rows, lt-ltb limit (count book) l)
 
       module _ (few : count book ≤ limit) where
+        is-few : ltb limit (count book) ≡ false
+        is-few = le-ltb limit (count book) few
+
         pub book-other : (length book ≡ size (count book) → ⊥) → bookRefusal book ≡ refused (answer 21 0 0)
         unfolding bookRefusal
-        book-other h = rw (le-ltb (length book) 2 long, ne-eqb (count book) 0 some, le-ltb limit (count book) few, ne-eqb (length book) (size (count book)) h)
+        book-other h = rw (is-long, has-rows, is-few, ne-eqb (length book) (size (count book)) h)
 
         module _ (whole : length book ≡ size (count book)) where
+          is-whole : eqb (length book) (size (count book)) ≡ true
+          is-whole = eq-eqb (length book) (size (count book)) whole
+
           pub book-offset : {i : ℕ} → lowest (count book) (wrongOffset book) ≡ at i → bookRefusal book ≡ refused (answer 22 i 0)
           unfolding bookRefusal
-          book-offset h = rw (le-ltb (length book) 2 long, ne-eqb (count book) 0 some, le-ltb limit (count book) few, eq-eqb (length book) (size (count book)) whole, h)
+          book-offset h = rw (is-long, has-rows, is-few, is-whole, h)
 
           pub book-none : lowest (count book) (wrongOffset book) ≡ nowhere → bookRefusal book ≡ fine
           unfolding bookRefusal
-          book-none h = rw (le-ltb (length book) 2 long, ne-eqb (count book) 0 some, le-ltb limit (count book) few, eq-eqb (length book) (size (count book)) whole, h)
+          book-none h = rw (is-long, has-rows, is-few, is-whole, h)
 
   -- what is a book
   pub record IsBook : Type 0 where
@@ -165,15 +178,15 @@ module _ (book : List ℕ) (room : ℕ) where
 
 -- ---- one offset
 
-pub offset-wrong : (book : List ℕ) (i : ℕ) → (fromHigh (part book (2 + 4 * i) 4) ≡ offset (count book) i → ⊥) → Is (wrongOffset book i)
-offset-wrong book i h = rw (ne-eqb (fromHigh (part book (2 + 4 * i) 4)) (offset (count book) i) h) tt
+pub offset-wrong : (book : List ℕ) (i : ℕ) → (offsetAt book i ≡ offset (count book) i → ⊥) → Is (wrongOffset book i)
+offset-wrong book i h = rw (ne-eqb (offsetAt book i) (offset (count book) i) h) tt
 
-pub offset-right : (book : List ℕ) (i : ℕ) → fromHigh (part book (2 + 4 * i) 4) ≡ offset (count book) i → Is (wrongOffset book i) → ⊥
-offset-right book i e = rw (eq-eqb (fromHigh (part book (2 + 4 * i) 4)) (offset (count book) i) e) (λ x. x)
+pub offset-right : (book : List ℕ) (i : ℕ) → offsetAt book i ≡ offset (count book) i → Is (wrongOffset book i) → ⊥
+offset-right book i e = rw (eq-eqb (offsetAt book i) (offset (count book) i) e) (λ x. x)
 
-pub offset-is : (book : List ℕ) (i : ℕ) → (Is (wrongOffset book i) → ⊥) → fromHigh (part book (2 + 4 * i) 4) ≡ offset (count book) i
-offset-is book i h = go (ℕ-discrete (fromHigh (part book (2 + 4 * i) 4)) (offset (count book) i))
+pub offset-is : (book : List ℕ) (i : ℕ) → (Is (wrongOffset book i) → ⊥) → offsetAt book i ≡ offset (count book) i
+offset-is book i h = go (ℕ-discrete (offsetAt book i) (offset (count book) i))
   where
-    go : Dec (fromHigh (part book (2 + 4 * i) 4) ≡ offset (count book) i) → fromHigh (part book (2 + 4 * i) 4) ≡ offset (count book) i
+    go : Dec (offsetAt book i ≡ offset (count book) i) → offsetAt book i ≡ offset (count book) i
     go (yes e) = e
     go (no e) = absurd (h (offset-wrong book i e))

@@ -51,13 +51,13 @@ part-next l p w h =
 pub part-first : (l : List ℕ) (p w : ℕ) → p < length l → part l p (suc w) ≡ at l p ∷ part l (p + 1) w
 part-first l p w h = let more : suc p ≡ p + 1 = omega arith in ap (take (suc w)) (drop-cons l p 0 h) ∙ ap (λ (k : ℕ). at l p ∷ part l k w) more
 
-pub part-below : (most : ℕ) (l : List ℕ) (p w : ℕ) → 0 < most → Below most l → Below most (part l p w)
-part-below most l p w z h = taken w (drop p l) (dropped p l h)
+pub part-below : (bound : ℕ) (l : List ℕ) (p w : ℕ) → 0 < bound → Below bound l → Below bound (part l p w)
+part-below bound l p w z h = taken w (drop p l) (dropped p l h)
   where
-    dropped : (p : ℕ) (l : List ℕ) → Below most l → Below most (drop p l)
-    dropped p l h i = subst (λ (x : ℕ). x < most) (sym (getD-drop p l i 0)) (h (p + i))
+    dropped : (p : ℕ) (l : List ℕ) → Below bound l → Below bound (drop p l)
+    dropped p l h i = subst (λ (x : ℕ). x < bound) (sym (getD-drop p l i 0)) (h (p + i))
 
-    taken : (w : ℕ) (l : List ℕ) → Below most l → Below most (take w l)
+    taken : (w : ℕ) (l : List ℕ) → Below bound l → Below bound (take w l)
     taken zero l h i = z
     taken (suc w) [] h i = z
     taken (suc w) (x ∷ l) h zero = h 0

@@ -15,7 +15,7 @@ use Rattle.order.specs.Orders.{mem}
 use Rattle.intake.specs.Refusals.{shapeRefusal}
 use Rattle.intake.specs.Answer.{Answer, answer, refused}
 use Rattle.intake.specs.Laws.{meet, replied-one}
-use Rattle.intake.specs.Told.{toldRefusal, told-refusal, not-refusal, Numbers, number-has, then-numbers, if-numbers, at-numbers, Small, wider-small, shape-small}
+use Rattle.intake.specs.Told.{toldRefusal, told-refusal, not-refusal, Numbers, number-has, then-numbers, if-numbers, at-numbers, told-one}
 use Rattle.book.specs.Bytes.{fromHigh}
 use Rattle.book.specs.Book.{size, count}
 use Rattle.book.specs.Replies.{readingAnswer, writingAnswer, bookRefusal, readRefusal, writeRefusal, BookRead, BookWritten}
@@ -79,37 +79,28 @@ told-writing (Unwritten r) = rw (not-refusal r 104 (lit≤ tt), told-refusal r)
 pub one-reading : OneReading
 one-reading book before after after′ r r′ x y =
     let one = one-read book before after after′ (readingAnswer r) (readingAnswer r′) x y in
-    (sym (told-reading r) ∙ ap toldReading (one .0) ∙ told-reading r′, one .1)
+    (told-one readingAnswer toldReading told-reading (one .0), one .1)
 
 pub one-writing : OneWriting
 one-writing words before after after′ r r′ x y =
     let one = one-written words before after after′ (writingAnswer r) (writingAnswer r′) x y in
-    (sym (told-writing r) ∙ ap toldWriting (one .0) ∙ told-writing r′, one .1)
+    (told-one writingAnswer toldWriting told-writing (one .0), one .1)
 
 -- the numbers of the checks
 book-by : (book : List ℕ) → Numbers (OneOf (20 ∷ 2 ∷ 21 ∷ 22 ∷ [])) (bookRefusal book)
 unfolding bookRefusal mem
 book-by book = search (then-numbers, if-numbers, at-numbers) depth 10
 
-read-by : (book : List ℕ) (room : ℕ) → Numbers (OneOf (20 ∷ 2 ∷ 21 ∷ 22 ∷ 4 ∷ [])) (readRefusal book room)
+pub read-by : (book : List ℕ) (room : ℕ) → Numbers (OneOf (20 ∷ 2 ∷ 21 ∷ 22 ∷ 4 ∷ [])) (readRefusal book room)
 unfolding readRefusal bookRefusal mem
 read-by book room = search (then-numbers, if-numbers, at-numbers) depth 10
 
-write-by : (words : List ℕ) (room : ℕ) → Numbers (OneOf (1 ∷ 2 ∷ 4 ∷ [])) (writeRefusal words room)
+pub write-by : (words : List ℕ) (room : ℕ) → Numbers (OneOf (1 ∷ 2 ∷ 4 ∷ [])) (writeRefusal words room)
 unfolding writeRefusal shapeRefusal mem
 write-by words room = search (then-numbers, if-numbers) depth 10
 
 pub refused-by : RefusedBy
 refused-by = ((λ book room r e. number-has (read-by book room) e), (λ book r e. number-has (book-by book) e), (λ words room r e. number-has (write-by words room) e))
-
--- so none is mistaken for an answer
-pub read-small : (book : List ℕ) (room : ℕ) → Small 22 (readRefusal book room)
-unfolding readRefusal bookRefusal
-read-small book room = search (then-numbers, if-numbers, at-numbers, lit≤) depth 10
-
-pub write-small : (words : List ℕ) (room : ℕ) → Small 4 (writeRefusal words room)
-unfolding writeRefusal
-write-small words room = then-numbers (wider-small (lit≤ tt) (shape-small words)) (search (if-numbers, lit≤))
 
 -- what is longer than any book is refused by its count alone
 too-long : (n : ℕ) → (r : Answer) × ((input : List ℕ) → count input ≡ n → size limit < length input → bookRefusal input ≡ refused r)

@@ -6,23 +6,24 @@ use mathlib.Core.Path.{_≡_, refl, sym, ap, ap₂, subst, _∙_}
 use mathlib.Core.List.{List, [], _∷_, _++_, append-nil}
 use lib.ListN.{length, take}
 use lib.Seq.{drop-append-add, take-length}
-use lib.Dec.{lit≤, lit<}
+use lib.Dec.{lit<}
 use Rattle.sums.specs.Masks.{None}
 use Rattle.sums.specs.MaskLaws.{lowest-none, none-lowest}
 use Rattle.sums.specs.Columns.{at}
 use Rattle.licence.specs.Limit.{limit}
+use Rattle.order.specs.Orders.{mem}
 use Rattle.intake.specs.Words.{rows}
 use Rattle.intake.specs.Answer.{Answer, answer, fine}
 use Rattle.intake.specs.Refusals.{shapeRefusal}
 use Rattle.intake.specs.Laws.{shaped, whole-words, some-words}
 use Rattle.intake.specs.Told.{replied-fine}
 use Rattle.book.specs.Bytes.{low, high, fromLow, fromHigh, part, each, laidOn, Below}
-use Rattle.book.specs.Book.{offset, size, offsets, bodies, bookOf, wordAt, wordsIn, wordsOf, count, wrongOffset}
+use Rattle.book.specs.Book.{offset, size, offsets, bodies, bookOf, wordAt, wordsIn, wordsOf, count, offsetAt, wrongOffset}
 use Rattle.book.specs.Replies.{bookRefusal, BookRead, BookWritten}
 use Rattle.book.specs.ByteLaws.{from-low, low-from, from-low-fits, from-high, high-from}
 use Rattle.book.specs.ListLaws.{take-laid, part-length, part-below, part-join, each-cong, each-part, each-parts, each-entries, each-at, each-below}
 use Rattle.book.specs.Laws.{offsets-length, book-length, words-length, words-rows, words-shape, writable, write-none, IsBook, is-book, book-none, read-none, offset-right, offset-is}
-use Rattle.book.specs.Outcome.{write-small}
+use Rattle.book.specs.Outcome.{write-by}
 use Rattle.book.specs.Read.{words-read}
 
 -- What was written is read back word for word, into any list that has room.
@@ -45,7 +46,7 @@ BooksExactly = ((words : List ℕ) → shapeRefusal words ≡ fine → bookRefus
 -- Where the contents say that a row starts, its six words stand.
 abbrev pub RowsThere : Type 0
 RowsThere = (words : List ℕ) → shapeRefusal words ≡ fine → (i f : ℕ) → i < rows words → f < 6
-    → part (bookOf words) (fromHigh (part (bookOf words) (2 + 4 * i) 4) + 4 * f) 4 ≡ low 4 (at words (6 * i + f))
+    → part (bookOf words) (offsetAt (bookOf words) i + 4 * f) 4 ≡ low 4 (at words (6 * i + f))
 
 -- ---- a book of words, read
 
@@ -55,7 +56,7 @@ module _ (words : List ℕ) (shape : shapeRefusal words ≡ fine) where
   book-count = from-high 2 (rows words) (omega (arith, shaped words shape .few))
 
   -- the offset of row i, and word m
-  book-start : (i : ℕ) → i < rows words → fromHigh (part (bookOf words) (2 + 4 * i) 4) ≡ offset (rows words) i
+  book-start : (i : ℕ) → i < rows words → offsetAt (bookOf words) i ≡ offset (rows words) i
   unfolding limit
   book-start i l =
       let n = rows words in
@@ -100,17 +101,14 @@ module _ (book : List ℕ) (bytes : Below 256 book) (fine-book : bookRefusal boo
   known : IsBook book
   known = is-book book fine-book
 
-  -- a part of the book is the bytes of the number that it stands for
-  high-part : (p w : ℕ) → p + w ≤ length book → high w (fromHigh (part book p w)) ≡ part book p w
-  high-part p w l = ap (λ (k : ℕ). high k (fromHigh (part book p w))) (sym (part-length book p w l)) ∙ high-from (part book p w) (part-below 256 book p w (lit< tt) bytes)
-
-  low-part : (p w : ℕ) → p + w ≤ length book → low w (fromLow (part book p w)) ≡ part book p w
-  low-part p w l = ap (λ (k : ℕ). low k (fromLow (part book p w))) (sym (part-length book p w l)) ∙ low-from (part book p w) (part-below 256 book p w (lit< tt) bytes)
+  -- a part of the book is the bytes of the number that it stands for, in either order
+  part-back : (there : ℕ → ℕ → List ℕ) (from : List ℕ → ℕ) → ((l : List ℕ) → Below 256 l → there (length l) (from l) ≡ l) → (p w : ℕ) → p + w ≤ length book → there w (from (part book p w)) ≡ part book p w
+  part-back there from back p w l = ap (λ (k : ℕ). there k (from (part book p w))) (sym (part-length book p w l)) ∙ back (part book p w) (part-below 256 book p w (lit< tt) bytes)
 
   words-offsets : offsets (count book) ≡ part book 2 (4 * count book)
   words-offsets =
       let n = count book in
-      each-cong (λ i. high 4 (offset n i)) (λ i. part book (2 + 4 * i) 4) 0 n (λ i a b. ap (high 4) (sym (offset-is book i (none-lowest n (wrongOffset book) (known .right) i (omega arith)))) ∙ high-part (2 + 4 * i) 4 (omega (arith, known .whole)))
+      each-cong (λ i. high 4 (offset n i)) (λ i. part book (2 + 4 * i) 4) 0 n (λ i a b. ap (high 4) (sym (offset-is book i (none-lowest n (wrongOffset book) (known .right) i (omega arith)))) ∙ part-back high fromHigh high-from (2 + 4 * i) 4 (omega (arith, known .whole)))
       ∙ each-parts book 2 4 0 n
 
   words-bodies : bodies (wordsOf book) ≡ part book (2 + 4 * count book) (4 * (6 * count book))
@@ -118,7 +116,7 @@ module _ (book : List ℕ) (bytes : Below 256 book) (fine-book : bookRefusal boo
       let n = count book in
       let start : offset n 0 + 4 * 0 ≡ 2 + 4 * n = omega arith in
       ap (λ (k : ℕ). each (λ m. low 4 (at (wordsOf book) m)) 0 k) (words-length book n)
-      ∙ each-cong (λ m. low 4 (at (wordsOf book) m)) (λ m. part book (offset n 0 + 4 * m) 4) 0 (6 * n) (λ m a b. ap (low 4) (each-at (wordAt book n) 0 (6 * n) m (omega arith) ∙ ap (wordAt book n) (omega arith)) ∙ low-part (offset n 0 + 4 * m) 4 (omega (arith, known .whole)))
+      ∙ each-cong (λ m. low 4 (at (wordsOf book) m)) (λ m. part book (offset n 0 + 4 * m) 4) 0 (6 * n) (λ m a b. ap (low 4) (each-at (wordAt book n) 0 (6 * n) m (omega arith) ∙ ap (wordAt book n) (omega arith)) ∙ part-back low fromLow low-from (offset n 0 + 4 * m) 4 (omega (arith, known .whole)))
       ∙ each-parts book (offset n 0) 4 0 (6 * n)
       ∙ ap (λ (p : ℕ). part book p (4 * (6 * n))) start
 
@@ -128,7 +126,7 @@ module _ (book : List ℕ) (bytes : Below 256 book) (fine-book : bookRefusal boo
       let behind : 2 + 4 * n ≡ 0 + (2 + 4 * n) = omega arith in
       let all : 2 + 4 * n + 4 * (6 * n) ≡ length book = omega (arith, known .whole) in
       ap (λ (k : ℕ). high 2 k ++ offsets k ++ bodies (wordsOf book)) (words-rows book)
-      ∙ ap (λ (l : List ℕ). l ++ offsets n ++ bodies (wordsOf book)) (high-part 0 2 (omega (arith, known .long)))
+      ∙ ap (λ (l : List ℕ). l ++ offsets n ++ bodies (wordsOf book)) (part-back high fromHigh high-from 0 2 (omega (arith, known .long)))
       ∙ ap₂ (λ (l m : List ℕ). part book 0 2 ++ l ++ m) words-offsets words-bodies
       ∙ ap (λ (l : List ℕ). l ++ part book (2 + 4 * n) (4 * (6 * n))) (part-join book 0 2 (4 * n))
       ∙ ap (λ (p : ℕ). part book 0 (2 + 4 * n) ++ part book p (4 * (6 * n))) behind
@@ -148,8 +146,9 @@ module _ (book : List ℕ) (bytes : Below 256 book) (fine-book : bookRefusal boo
 -- ---- the proofs
 
 pub read-back : ReadBack
+unfolding mem
 read-back words before after k fits w list list′ a roomy r =
-    let written = replied-fine (write-small words (length before)) w (lit≤ tt) in
+    let written = replied-fine (write-by words (length before)) w (λ h. h) in
     let shape = writable words (length before) written .0 in
     let made = w .answering written in
     let bytes : length (bookOf words) ≡ k = book-length words shape ∙ sym (ap (λ (x : Answer). x .first) (made .0)) in
@@ -161,15 +160,15 @@ read-back words before after k fits w list list′ a roomy r =
 pub written-again : WrittenAgain
 written-again book before after n bytes r list list′ a roomy w =
     let x = words-read book before after n r in
-    let known = is-book book (x .is) in
+    let known = is-book book (x .unrefused) in
     let rows-are = words-rows book in
     let room : size (count book) ≤ length list = omega (arith, known .whole) in
-    let told = subst (λ (l : List ℕ). BookWritten l list list′ a) (x .there) w .answering (write-none (wordsOf book) (length list) (words-shape book (x .is)) (sym rows-are) room) in
-    (told .0 ∙ ap (λ (k : ℕ). answer 104 k 0) (ap size rows-are ∙ sym (known .whole)), told .1 ∙ ap (λ (l : List ℕ). laidOn l list) (words-book book bytes (x .is)))
+    let told = subst (λ (l : List ℕ). BookWritten l list list′ a) (x .there) w .answering (write-none (wordsOf book) (length list) (words-shape book (x .unrefused)) (sym rows-are) room) in
+    (told .0 ∙ ap (λ (k : ℕ). answer 104 k 0) (ap size rows-are ∙ sym (known .whole)), told .1 ∙ ap (λ (l : List ℕ). laidOn l list) (words-book book bytes (x .unrefused)))
 
 pub books-exactly : BooksExactly
 books-exactly = ((λ words shape. book-fine words shape), (λ book bytes e. (wordsOf book, words-shape book e, words-fit book bytes e, sym (words-book book bytes e))))
 
 pub rows-there : RowsThere
 rows-there words shape i f l h =
-    book-word words shape (fromHigh (part (bookOf words) (2 + 4 * i) 4) + 4 * f) (6 * i + f) (omega (arith, book-start words shape i l)) (omega (arith, whole-words words (shaped words shape .whole)))
+    book-word words shape (offsetAt (bookOf words) i + 4 * f) (6 * i + f) (omega (arith, book-start words shape i l)) (omega (arith, whole-words words (shaped words shape .whole)))

@@ -19,7 +19,7 @@ use Rattle.intake.specs.Words.{rows, tableOf}
 use Rattle.intake.specs.Answer.{Answer, Check, refused, fine}
 use Rattle.intake.specs.Refusals.{tableRefusal}
 use Rattle.intake.specs.Laws.{meet, replied-one, accepted}
-use Rattle.intake.specs.Told.{toldRefusal, told-refusal, not-refusal, number-has, replied-fine, table-small}
+use Rattle.intake.specs.Told.{toldRefusal, told-refusal, not-refusal, number-has, told-one, replied-fine, table-small}
 use Rattle.finder.specs.Placing.{Ending, found, none, leads, free, Finds}
 use Rattle.finder.specs.Right.{Right, finds-one, finds-right}
 use Rattle.finder.specs.Tried.{TriedWithin, tried-bound}
@@ -100,7 +100,7 @@ ends-right words room e = finds-right (tableOf words) free (λ k l. row-allowed 
 
 -- only such a table is answered with a number past 4
 unrefused : (words before after : List ℕ) (a : Answer) → Searched words before after a → 4 < a .number → tableRefusal words (length before) ≡ fine
-unrefused words before after a s l = replied-fine (table-small words (length before)) s l
+unrefused words before after a s l = replied-fine (table-small words (length before)) s (λ h. omega (arith, h .1))
 
 -- ---- the proofs
 
@@ -124,7 +124,7 @@ told-answer (Refused r) = rw (not-refusal r 102 (lit≤ tt), told-refusal r)
 pub one-finding : OneFinding
 one-finding words before after after′ r r′ s s′ =
     let x = one-outcome words before after after′ (findingAnswer r) (findingAnswer r′) s s′ in
-    (sym (told-answer r) ∙ (ap told (x .0) ∙ told-answer r′), x .1)
+    (told-one findingAnswer told told-answer (x .0), x .1)
 
 pub found-means : FoundMeans
 found-means words before after a s is-102 =

@@ -2,7 +2,7 @@
 -- Assumes nothing.
 use Prim.Native.Nat.{ℕ, _*_, _%_, _≤_, _<_}
 use native.Mathlib.Omega.{arith}
-use mathlib.Core.Path.{_≡_, refl, sym, ap, subst, _∙_}
+use mathlib.Core.Path.{_≡_, refl, sym, subst, _∙_}
 use mathlib.Core.Bool.{Bool, true, false, not, _||_}
 use mathlib.Core.List.{List}
 use lib.ListN.{length}
@@ -32,11 +32,6 @@ if-fine false a e = refl
 pub at-fine : (p : Place) (a : ℕ → Answer) → refuseAt p a ≡ fine → p ≡ nowhere
 at-fine (at k) a e = absurd (let z : _≡_ {A = ℕ} 0 1 = cc in omega arith)
 at-fine nowhere a e = refl
-
--- the number that a check refuses with, or 0
-abbrev numberOf : Check → ℕ
-numberOf (refused a) = a .number
-numberOf fine = 0
 
 -- a reply that a check refuses, and one that is answered
 pub replied-refused : {check : Check} {list : List ℕ} {a : Answer} {Answered : Type 0} → check ≡ refused a → Replied check list list a Answered
@@ -123,14 +118,6 @@ module _ (words : List ℕ) (room : ℕ) where
     pub refuse-none : lowest n (badRow words) ≡ nowhere → n ≤ room → tableRefusal words room ≡ fine
     unfolding tableRefusal
     refuse-none l k = rw (shape, sym count, l, le-ltb room n k)
-
-    -- with room, only a bad row is left to refuse
-    pub only-3 : n ≤ room → {a : Answer} → tableRefusal words room ≡ refused a → a .number ≡ 3
-    only-3 k {a} e = go (lowest n (badRow words)) refl
-      where
-        go : (p : Place) → lowest n (badRow words) ≡ p → a .number ≡ 3
-        go (at i) l = ap (λ (c : Check). numberOf c) (sym e ∙ refuse-3 l)
-        go nowhere l = absurd (let q = sym e ∙ refuse-none l k in let z : _≡_ {A = ℕ} 0 1 = cc in omega arith)
 
   -- a table that no check refuses
   pub record Accepted : Type 0 where

@@ -3,13 +3,15 @@
 use Prim.Native.Nat.{ℕ, _≤_, _<_}
 use native.Mathlib.Nat.{le-trans}
 use native.Mathlib.Omega.{arith}
-use mathlib.Core.Path.{_≡_, refl, ap, subst}
+use mathlib.Core.Path.{_≡_, refl, sym, ap, subst, _∙_}
 use mathlib.Core.Bool.{Bool, true, false, cond}
 use mathlib.Core.List.{List}
 use lib.Dec.{eqb, lit≤, lit<}
-use borrow.Author.Tests.{ne-eqb}
-use Rattle.sums.specs.Masks.{Place, at, nowhere}
-use Rattle.intake.specs.Answer.{Answer, refusalAnswer, Check, refused, fine, refuseIf, refuseAt, _then_, Replied}
+use borrow.Author.Tests.{ne-eqb, le-ltb}
+use Rattle.sums.specs.Masks.{Place, at, nowhere, lowest}
+use Rattle.licence.specs.Row.{badField}
+use Rattle.intake.specs.Words.{rows, badRow}
+use Rattle.intake.specs.Answer.{Answer, answer, refusalAnswer, Check, refused, fine, refuseIf, refuseAt, _then_, Replied}
 use Rattle.intake.specs.Refusals.{shapeRefusal, tableRefusal}
 use Rattle.intake.specs.declared.Refusal.{Refusal}
 use Rattle.intake.specs.declared.Refusal.the-variants.{Ragged, TooMany, BadRow, NoRoom, OrderLength, OrderEntry, SplitQueue, NoOrder, EmptyBook, BookLength, BookOffset}
@@ -41,7 +43,11 @@ told-refusal EmptyBook = refl
 told-refusal BookLength = refl
 told-refusal (BookOffset i) = refl
 
--- and none has a number of three digits: those are for answers
+-- so cases that can be told from their answers are one where these are
+pub told-one : {R : Type 0} (answers : R → Answer) (told : Answer → R) → ((r : R) → told (answers r) ≡ r) → {r r′ : R} → answers r ≡ answers r′ → r ≡ r′
+told-one answers told back {r} {r′} e = sym (back r) ∙ ap told e ∙ back r′
+
+-- no refusal has a number of three digits: those are for answers
 pub refusal-small : (r : Refusal) → refusalAnswer r .number < 100
 refusal-small Ragged = lit< tt
 refusal-small TooMany = lit< tt
@@ -101,12 +107,12 @@ Small most = Numbers (UpTo most)
 pub wider-small : {most more : ℕ} {c : Check} → most ≤ more → Small most c → Small more c
 wider-small l = numbers-map (λ n h. (h .0, le-trans (h .1) l))
 
--- what is replied with a number past the bound was not refused
-pub replied-fine : {most : ℕ} {c : Check} {before after : List ℕ} {a : Answer} {Answered : Type 0} → Small most c → Replied c before after a Answered → most < a .number → c ≡ fine
-replied-fine {most} {c} {a = a} h x l = go c refl
+-- what is replied with a number that no refusal has was not refused
+pub replied-fine : {P : ℕ → Type 0} {c : Check} {before after : List ℕ} {a : Answer} {Answered : Type 0} → Numbers P c → Replied c before after a Answered → (P (a .number) → ⊥) → c ≡ fine
+replied-fine {P} {c} {a = a} h x other = go c refl
   where
     go : (d : Check) → c ≡ d → c ≡ fine
-    go (refused r) e = absurd (omega (arith, number-has h e .1, ap (λ (y : Answer). y .number) (x .refusing r e .0)))
+    go (refused r) e = absurd (other (subst (λ (y : Answer). P (y .number)) (sym (x .refusing r e .0)) (number-has h e)))
     go fine e = e
 
 -- the checks of a lent table
@@ -117,3 +123,9 @@ shape-small words = search (then-numbers, if-numbers, lit≤) depth 6
 pub table-small : (words : List ℕ) (room : ℕ) → Small 4 (tableRefusal words room)
 unfolding tableRefusal
 table-small words room = then-numbers (wider-small (lit≤ tt) (shape-small words)) (search (then-numbers, if-numbers, at-numbers, lit≤) depth 8)
+
+-- with the shape of a table, and with room, only a bad row is left to refuse
+pub only-3 : (words : List ℕ) (room : ℕ) → shapeRefusal words ≡ fine → rows words ≤ room → Numbers (λ n. n ≡ 3) (tableRefusal words room)
+unfolding tableRefusal
+only-3 words room shape roomy =
+    rw (shape, le-ltb room (rows words) roomy) (then-numbers (at-numbers (lowest (rows words) (badRow words)) (λ i. answer 3 i (badField words i)) (λ i. refl)) none)

@@ -36,6 +36,7 @@ pub struct Reply {
     pub second: u32,
 }
 
+// A reply with these numbers.
 pub fn numbered(number: u32, first: u32, second: u32) -> Reply
     ensures { λ r. ⌜ said r ≡ answer number first second ⌝ }
 {
@@ -46,6 +47,7 @@ pub fn numbered(number: u32, first: u32, second: u32) -> Reply
     }
 }
 
+// A refusal's number, and what it carries.
 pub fn refusal_reply(r: Refusal) -> Reply
     ensures { λ x. ⌜ said x ≡ refusalAnswer r ⌝ }
 {

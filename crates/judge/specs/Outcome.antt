@@ -19,7 +19,7 @@ use Rattle.intake.specs.Words.{rows, tableOf}
 use Rattle.intake.specs.Answer.{Answer, answer, refused, fine}
 use Rattle.judge.specs.Judged.{judgementAnswer, orderRefusal, refusal, LateAt, ShownAt, Written, AllPassed, SomeLate, Judged}
 use Rattle.intake.specs.Laws.{replied-one}
-use Rattle.intake.specs.Told.{toldRefusal, told-refusal, not-refusal, Small, then-numbers, if-numbers, at-numbers, wider-small, number-has, replied-fine, table-small}
+use Rattle.intake.specs.Told.{toldRefusal, told-refusal, not-refusal, Small, then-numbers, if-numbers, at-numbers, wider-small, number-has, told-one, replied-fine, table-small}
 use Rattle.judge.specs.declared.Judgement.{Judgement}
 use Rattle.judge.specs.declared.Judgement.the-variants.{Passed, Late, Refused}
 use Rattle.judge.specs.Fine.{Fine, fine-order, some-bits, entry-row, place-of}
@@ -135,7 +135,7 @@ told-answer (Refused r) = rw (not-refusal r 100 (lit≤ tt), not-refusal r 101 (
 pub one-judgement : OneJudgement
 one-judgement words order before after after′ r r′ j j′ =
     let x = one-outcome words order before after after′ (judgementAnswer r) (judgementAnswer r′) j j′ in
-    (sym (told-answer r) ∙ (ap told (x .0) ∙ told-answer r′), x .1)
+    (told-one judgementAnswer told told-answer (x .0), x .1)
 
 pub zero-exactly-late : ZeroExactlyLate
 zero-exactly-late words order before after a j e p l =
@@ -157,7 +157,7 @@ refused-small words order room r e = number-has (seven words order room) e
 
 pub passed-means : PassedMeans
 passed-means words order before after a j is-100 =
-    let e = replied-fine (seven words order (length before)) j (omega (arith, is-100)) in
+    let e = replied-fine (seven words order (length before)) j (λ h. omega (arith, h .1, is-100)) in
     let known = fine-order words order (length before) e in
     let x = j .answering e in
     let all = only-passed (tableOf words) order is-100 (x .verdict) in

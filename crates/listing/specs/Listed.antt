@@ -22,9 +22,9 @@ blank = replicate limit 0
 -- the text for the words of a book
 pub data WordsListed (words text : List ℕ) : Type 0 where
   -- finding refuses: the table is bad, or no order passes
-  none : (r : Refusal) (after : List ℕ) → Searched words blank after (refusalAnswer r) → text ≡ refusedLine (refusalAnswer r .number) → WordsListed words text
+  refuses : (r : Refusal) (after : List ℕ) → Searched words blank after (refusalAnswer r) → text ≡ refusedLine (refusalAnswer r .number) → WordsListed words text
   -- an order is found and judged: the row at each place, with its figure
-  found : (order figures : List ℕ) (tried : ℕ) (verdict : Answer) → Searched words blank order (answer 102 tried 0) → Judged words (take (rows words) order) blank figures verdict
+  shows : (order figures : List ℕ) (tried : ℕ) (verdict : Answer) → Searched words blank order (answer 102 tried 0) → Judged words (take (rows words) order) blank figures verdict
       → text ≡ lines (take (rows words) order) figures → WordsListed words text
 
 -- the text for any bytes: what is no book is refused, and of a book the words are listed

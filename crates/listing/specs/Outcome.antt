@@ -14,8 +14,8 @@ use Rattle.order.specs.Lists.{mem-there}
 use Rattle.intake.specs.Words.{rows}
 use Rattle.intake.specs.Answer.{Answer, answer, refusalAnswer, Check, refused, fine}
 use Rattle.intake.specs.Refusals.{tableRefusal}
-use Rattle.intake.specs.Laws.{shaped, only-3}
-use Rattle.intake.specs.Told.{refusal-small}
+use Rattle.intake.specs.Laws.{shaped}
+use Rattle.intake.specs.Told.{refusal-small, number-has, only-3}
 use Rattle.intake.specs.declared.Refusal.{Refusal}
 use Rattle.judge.specs.Judged.{Judged}
 use Rattle.judge.specs.Outcome.{one-outcome as one-judged}
@@ -27,7 +27,7 @@ use Rattle.book.specs.Replies.{bookRefusal}
 use Rattle.book.specs.Laws.{words-shape}
 use Rattle.book.specs.Outcome.{OneOf, refused-by, first-bytes-decide}
 use Rattle.listing.specs.Text.{lines, refusedLine}
-use Rattle.listing.specs.Listed.{blank, WordsListed, none as listed-none, found as listed-found, Listed, Stands}
+use Rattle.listing.specs.Listed.{blank, WordsListed, refuses, shows, Listed, Stands}
 
 -- No two texts are right for one book.
 abbrev pub OneText : Type 0
@@ -55,13 +55,13 @@ SaysOnly = (book text : List ℕ) → Listed book text → Says text
 -- ---- the proofs
 
 one-words : (words text text′ : List ℕ) → WordsListed words text → WordsListed words text′ → text ≡ text′
-one-words words text text′ (listed-none r after s e) (listed-none r′ after′ s′ e′) =
+one-words words text text′ (refuses r after s e) (refuses r′ after′ s′ e′) =
     e ∙ ap (λ (a : Answer). refusedLine (a .number)) (one-searched words blank after after′ (refusalAnswer r) (refusalAnswer r′) s s′ .0) ∙ sym e′
-one-words words text text′ (listed-none r after s e) (listed-found order figures tried verdict s′ j′ e′) =
+one-words words text text′ (refuses r after s e) (shows order figures tried verdict s′ j′ e′) =
     absurd (omega (arith, refusal-small r, ap (λ (a : Answer). a .number) (one-searched words blank after order (refusalAnswer r) (answer 102 tried 0) s s′ .0)))
-one-words words text text′ (listed-found order figures tried verdict s j e) (listed-none r after s′ e′) =
+one-words words text text′ (shows order figures tried verdict s j e) (refuses r after s′ e′) =
     absurd (omega (arith, refusal-small r, ap (λ (a : Answer). a .number) (one-searched words blank order after (answer 102 tried 0) (refusalAnswer r) s s′ .0)))
-one-words words text text′ (listed-found order figures tried verdict s j e) (listed-found order′ figures′ tried′ verdict′ s′ j′ e′) =
+one-words words text text′ (shows order figures tried verdict s j e) (shows order′ figures′ tried′ verdict′ s′ j′ e′) =
     let same = one-searched words blank order order′ (answer 102 tried 0) (answer 102 tried′ 0) s s′ .1 in
     let judged = subst (λ (o : List ℕ). Judged words (take (rows words) o) blank figures′ verdict′) (sym same) j′ in
     let shown = one-judged words (take (rows words) order) blank figures figures′ verdict verdict′ j judged .1 in
@@ -104,7 +104,7 @@ words-by book after r e s = go (tableRefusal (wordsOf book) (length blank)) refl
     go : (c : Check) → tableRefusal (wordsOf book) (length blank) ≡ c → OneOf refusals (refusalAnswer r .number)
     go (refused a) q =
         let shape = words-shape book e in
-        let three = ap (λ (x : Answer). x .number) (s .refusing a q .0) ∙ only-3 (wordsOf book) (length blank) shape refl (omega (arith, shaped (wordsOf book) shape .few)) q in
+        let three = ap (λ (x : Answer). x .number) (s .refusing a q .0) ∙ number-has (only-3 (wordsOf book) (length blank) shape (omega (arith, shaped (wordsOf book) shape .few))) q in
         subst (λ (n : ℕ). OneOf refusals n) (sym three) tt
     go fine q = let x = s .answering q in ends (x .ending) (x .told)
 
@@ -112,8 +112,8 @@ pub says-only : SaysOnly
 says-only book text x = go (bookRefusal book) refl
   where
     words : bookRefusal book ≡ fine → WordsListed (wordsOf book) text → Says text
-    words e (listed-none r after s q) = inr (refusalAnswer r .number, words-by book after r e s, q)
-    words e (listed-found order figures tried verdict s j q) = inl (take (rows (wordsOf book)) order, figures, q)
+    words e (refuses r after s q) = inr (refusalAnswer r .number, words-by book after r e s, q)
+    words e (shows order figures tried verdict s j q) = inl (take (rows (wordsOf book)) order, figures, q)
 
     go : (c : Check) → bookRefusal book ≡ c → Says text
     go (refused r) e = inr (r .number, mem-there 3 _ (r .number) (mem-there 8 _ (r .number) (refused-by .1 book r e)), x .unread r e)

@@ -35,7 +35,7 @@ decimal-long n l =
     ∙ ap (λ (b : Bool). cond b [] (spelled n (n / 10)) ++ ((48 + n % 10) ∷ [])) (le-ltb n 10 l)
     ∙ ap (λ (r : List ℕ). r ++ ((48 + n % 10) ∷ [])) (spelled-same n (n / 10) (n / 10) (omega arith) (omega arith))
 
--- the length of each, as stores need it
+-- so it has one digit more than its tenth
 pub long-length : (n : ℕ) → 10 ≤ n → length (decimal n) ≡ length (decimal (n / 10)) + 1
 long-length n l = ap length (decimal-long n l) ∙ length-append (decimal (n / 10)) ((48 + n % 10) ∷ [])
 

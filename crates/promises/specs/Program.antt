@@ -27,7 +27,7 @@ use Rattle.finder.specs.Outcome.{found-means}
 use Rattle.book.specs.Book.{bookOf, wordsOf}
 use Rattle.book.specs.Replies.{bookRefusal}
 use Rattle.listing.specs.Text.{decimal, lines, refusedLine}
-use Rattle.listing.specs.Listed.{blank, WordsListed, none, found, Listed}
+use Rattle.listing.specs.Listed.{blank, WordsListed, refuses, shows, Listed}
 use Rattle.promises.specs.Agreement.{found-is-passed}
 use Rattle.promises.specs.Demand3.{KeepsFigures, passed-is-kept}
 use Rattle.promises.specs.Reckon.{climb, reckon, same-list}
@@ -86,8 +86,8 @@ pub listed-is-kept : ListedIsKept
 listed-is-kept book text x e = go (x .listed e)
   where
     go : WordsListed (wordsOf book) text → ShowsKept (wordsOf book) text ⊎ SaysRefused (wordsOf book) text
-    go (none r after s q) = inr (record { refusal = r; after = after; refused = s; shows = q })
-    go (found order figures tried verdict s j q) =
+    go (refuses r after s q) = inr (record { refusal = r; after = after; refused = s; shows = q })
+    go (shows order figures tried verdict s j q) =
         let room = accepted (wordsOf book) (length blank) (found-means (wordsOf book) blank order (answer 102 tried 0) s refl .unrefused) .roomy in
         let says = found-is-passed (wordsOf book) blank order blank figures (answer 102 tried 0) verdict s refl room j in
         let passed = subst (Judged (wordsOf book) (take (rows (wordsOf book)) order) blank figures) says j in
@@ -114,7 +114,7 @@ unfolding bookRefusal blank decimal tableRefusal shapeRefusal ragged limit badFi
 table-a-listed =
     record {
       unread = λ r e. absurd (let z : _≡_ {A = ℕ} 0 1 = cc in omega arith);
-      listed = λ e. found foundA figuresA 5 (answer 100 0 0) (searched (tableWords tableA) blank foundA (answer 102 5 0) tt) (judged (tableWords tableA) (3 ∷ 1 ∷ 2 ∷ 0 ∷ []) blank figuresA (answer 100 0 0) tt) refl;
+      listed = λ e. shows foundA figuresA 5 (answer 100 0 0) (searched (tableWords tableA) blank foundA (answer 102 5 0) tt) (judged (tableWords tableA) (3 ∷ 1 ∷ 2 ∷ 0 ∷ []) blank figuresA (answer 100 0 0) tt) refl;
     }
 
 pub case-i-listed : CaseIListed
@@ -122,5 +122,5 @@ unfolding bookRefusal blank decimal tableRefusal shapeRefusal ragged limit badFi
 case-i-listed =
     record {
       unread = λ r e. absurd (let z : _≡_ {A = ℕ} 0 1 = cc in omega arith);
-      listed = λ e. none (NoOrder 2 2) blank (searched (tableWords tableI) blank blank (answer 8 2 2) tt) refl;
+      listed = λ e. refuses (NoOrder 2 2) blank (searched (tableWords tableI) blank blank (answer 8 2 2) tt) refl;
     }

@@ -8,8 +8,7 @@ use lib.Seq.{sets}
 use Rattle.licence.specs.Limit.{limit}
 use Rattle.book.specs.Bytes.{fromLow, part, each}
 use Rattle.book.specs.Book.{wordAt, wordsIn}
-use Rattle.book.specs.ListLaws.{sets-length}
-use Rattle.book.proofs.Stores.{entry-stored}
+use Rattle.book.specs.ListLaws.{sets-length, each-stored}
 use Rattle.book.proofs.get_bodies.Statement.{statement}
 use Rattle.book.proofs.get_bodies.Tie as tie
 
@@ -27,7 +26,7 @@ loop-again c =
     let l = c .before .before .loop in
     let a = c .before .before .before .before .before .before .args in
     let read = c .get-low .ensures ∙ ap (λ (s : ℕ). fromLow (part (a .book .now) (s + 4 * l .m) 4)) (c .before .before .before .start-of .ensures) in
-    (omega arith, ap (λ (v : ℕ). sets (set (l .words) (l .m) v) (l .m + 1) (each (λ j. wordAt (a .book .now) (a .n) j ∷ []) (l .m + 1) (6 * a .n - (l .m + 1)))) read ∙ entry-stored (l .words) (wordAt (a .book .now) (a .n)) (l .m) (6 * a .n) (c .before .loop-test .taken) ∙ l .inv .1)
+    (omega arith, ap (λ (v : ℕ). sets (set (l .words) (l .m) v) (l .m + 1) (each (λ j. wordAt (a .book .now) (a .n) j ∷ []) (l .m + 1) (6 * a .n - (l .m + 1)))) read ∙ each-stored (l .words) (λ j. wordAt (a .book .now) (a .n) j ∷ []) (l .m) (l .m + 1) (l .m) (6 * a .n) refl (c .before .loop-test .taken) ∙ l .inv .1)
 
 pub get-bodies-spec : {M : Type 1} → statement M
 unfolding limit

@@ -6,11 +6,10 @@ use Prim.Native.Nat.{ℕ}
 use mathlib.Core.Path.{_≡_, ap, _∙_}
 use mathlib.Core.List.{List}
 use lib.ListN.{length}
-use lib.Seq.{sets, length-sets}
+use lib.Seq.{sets}
 use Rattle.licence.specs.Limit.{limit}
 use Rattle.intake.specs.Answer.{answer}
 use Rattle.intake.specs.Laws.{shaped, whole-words, counted-rows, counted-refused, replied-refused, replied-answered}
-use Rattle.book.specs.Bytes.{high}
 use Rattle.book.specs.Book.{size, offsets, bodies}
 use Rattle.book.specs.Laws.{book-length, book-stored, write-shape, write-4, write-none}
 use Rattle.book.proofs.write.Statement.{statement}
@@ -26,10 +25,10 @@ returns-2 c = replied-refused (write-shape _ _ (counted-refused _ (c .before .be
 
 -- the list keeps its length with every part
 length-1 : (c : tie.After-put-high) → length (c .put-high .last .0) ≡ length (c .before .before .before .before .before .before .before .before .before .before .args .book .now)
-length-1 c = ap length (c .put-high .ensures) ∙ length-sets (c .before .before .before .before .before .before .before .before .before .before .args .book .now) 0 (high 2 _)
+length-1 c = c .put-high .kept .0
 
 length-2 : (c : tie.After-put-offsets) → length (c .put-offsets .last .0) ≡ length (c .before .before .before .before .before .before .before .before .before .before .before .before .before .before .args .book .now)
-length-2 c = ap length (c .put-offsets .ensures) ∙ length-sets (c .before .before .before .before .put-high .last .0) 2 (offsets (c .before .before .before .before .before .before .before .before .before .counted2 .given .0 .0)) ∙ length-1 (c .before .before .before .before)
+length-2 c = c .put-offsets .kept .0 ∙ length-1 (c .before .before .before .before)
 
 put-bodies-requires : tie.Need-put-bodies-requires
 put-bodies-requires c κs =

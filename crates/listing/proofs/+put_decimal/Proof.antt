@@ -6,7 +6,7 @@ use Prim.Native.Nat.{ℕ, _+_, _<_, _/_, _%_}
 use mathlib.Core.Path.{_≡_, sym, ap, ap₂, subst, _∙_}
 use mathlib.Core.List.{List, [], _∷_}
 use lib.ListN.{length, set, length-set}
-use lib.Seq.{sets, length-sets}
+use lib.Seq.{sets}
 use borrow.Fn.Kinds.{In}
 use borrow.Fn.PlainCycle.{Measures, is, falls, and}
 use Rattle.book.specs.ListLaws.{sets-append}
@@ -41,7 +41,7 @@ module _ (t : ℕ) where
 
   -- the last digit stands behind the others, inside the text
   kept : (c : put-decimal-lts.After-slice-known2 (asked t, put-decimal.Post) (given t) put-decimal.Post) → length (c .before .before .put-decimal .last .0) ≡ length (c .before .before .before .before .before .before .args .text .now)
-  kept c = ap length (c .before .before .put-decimal .ensures .1) ∙ length-sets (c .before .before .before .before .before .before .args .text .now) (c .before .before .before .before .before .before .args .at) (decimal (c .before .before .before .before .before .before .args .n / 10))
+  kept c = c .before .before .put-decimal .kept .0
 
   place : (c : put-decimal-lts.After-slice-known2 (asked t, put-decimal.Post) (given t) put-decimal.Post) → c .before .before .put-decimal .result < length (c .before .before .put-decimal .last .0)
   place c = omega (arith, c .before .before .put-decimal .ensures .0, c .before .before .before .before .before .before .pre .1, long-length (c .before .before .before .before .before .before .args .n) (c .before .before .before .before .if1 .left), kept c)

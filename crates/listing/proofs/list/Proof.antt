@@ -52,7 +52,7 @@ returns-2 c =
       record {
         inside = t .inside;
         text = record {
-          unread = λ r q. absurd (let y = sym (x .is) ∙ q in let z : _≡_ {A = ℕ} 0 1 = cc in omega arith);
+          unread = λ r q. absurd (let y = sym (x .unrefused) ∙ q in let z : _≡_ {A = ℕ} 0 1 = cc in omega arith);
           listed = λ q. subst (λ (w : List ℕ). WordsListed w (take (c .list-words .result) (c .list-words .last .1 .1 .0))) (x .there) (t .text);
         };
         behind = t .behind;

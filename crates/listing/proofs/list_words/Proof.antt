@@ -9,7 +9,7 @@ use Rattle.intake.specs.Answer.{Answer, answer, refusalAnswer}
 use Rattle.finder.specs.Searched.{Searched, findingAnswer}
 use Rattle.judge.specs.Judged.{Judged, judgementAnswer}
 use Rattle.listing.specs.Text.{lines, refusedLine}
-use Rattle.listing.specs.Listed.{blank, WordsListed, none, found}
+use Rattle.listing.specs.Listed.{blank, WordsListed, refuses, shows}
 use Rattle.listing.specs.Laws.{RowNumbers, found-rows, text-stands, refused-most, counts}
 use Rattle.listing.proofs.list_words.Statement.{statement}
 use Rattle.listing.proofs.list_words.Tie as tie
@@ -40,7 +40,7 @@ returns c =
     let words = c .before .before .before .before .before .before .before .before .before .before .before .before .args .words .now in
     let after = c .before .before .before .before .before .before .before .before .find .last .1 .0 in
     let e = c .before .before .put-refusal .ensures in
-    text-stands (WordsListed words) (c .before .before .before .before .before .before .before .before .before .before .before .before .args .text .now) (refusedLine (refusalAnswer r .number)) (e .0) (e .1) (omega (arith, refused-most r, c .before .before .before .before .before .before .before .before .before .before .before .before .pre .1)) (none r after (subst (Searched words blank after) (ap findingAnswer (c .before .before .before .before .before .finding .given .1)) (c .before .before .before .before .before .before .before .before .find .ensures)) refl)
+    text-stands (WordsListed words) (c .before .before .before .before .before .before .before .before .before .before .before .before .args .text .now) (refusedLine (refusalAnswer r .number)) (e .0) (e .1) (omega (arith, refused-most r, c .before .before .before .before .before .before .before .before .before .before .before .before .pre .1)) (refuses r after (subst (Searched words blank after) (ap findingAnswer (c .before .before .before .before .before .finding .given .1)) (c .before .before .before .before .before .before .before .before .find .ensures)) refl)
 
 returns-2 : tie.Need-returns-2
 unfolding blank limit
@@ -52,7 +52,7 @@ returns-2 c =
     let figures = c .before .before .before .before .before .before .before .judge .last .1 .1 .0 in
     let e = c .before .before .put-lines .ensures in
     let judged = subst (λ (k : ℕ). Judged (a .words .now) (take k order) blank figures (judgementAnswer (c .before .before .before .before .before .before .before .judge .result))) n (c .before .before .before .before .before .before .before .judge .ensures) in
-    text-stands (WordsListed (a .words .now)) (a .text .now) (lines (take (a .n) order) figures) (e .1) (e .2) (omega (arith, e .0, e .1, x .long, x .few, c .before .before .before .before .before .before .before .before .before .before .before .before .before .before .before .before .before .pre .1)) (found order figures _ _ (searched (c .before .before .before .before .before .before .before .before .before .before)) judged (ap (λ (k : ℕ). lines (take k order) figures) n))
+    text-stands (WordsListed (a .words .now)) (a .text .now) (lines (take (a .n) order) figures) (e .1) (e .2) (omega (arith, e .0, e .1, x .long, x .few, c .before .before .before .before .before .before .before .before .before .before .before .before .before .before .before .before .before .pre .1)) (shows order figures _ _ (searched (c .before .before .before .before .before .before .before .before .before .before)) judged (ap (λ (k : ℕ). lines (take k order) figures) n))
 
 pub list-words-spec : {M : Type 1} → statement M
 unfolding limit

@@ -4,18 +4,11 @@ use Prim.Native.Nat.{ℕ, _+_, _≤_}
 use mathlib.Core.Path.{_≡_, ap, _∙_}
 use mathlib.Core.List.{List}
 use lib.ListN.{length, set, length-set}
-use lib.Seq.{sets, length-sets}
+use lib.Seq.{sets}
 use Rattle.listing.specs.Text.{decimal}
 use Rattle.listing.specs.TextLaws.{word-length, line-length, line-stored}
 use Rattle.listing.proofs.put_line.Statement.{statement}
 use Rattle.listing.proofs.put_line.Tie as tie
-
--- the text keeps its length
-kept : (c : tie.After-put-decimal) → length (c .put-decimal .last .0) ≡ length (c .before .before .before .args .text .now)
-kept c = ap length (c .put-decimal .ensures .1) ∙ length-sets (c .before .before .before .args .text .now) (c .before .before .before .args .at) (decimal (c .before .before .before .args .row))
-
-kept-2 : (c : tie.After-put-decimal2) → length (c .put-decimal2 .last .0) ≡ length (c .before .before .before .before .before .before .before .args .text .now)
-kept-2 c = ap length (c .put-decimal2 .ensures .1) ∙ length-sets (set (c .before .before .before .before .put-decimal .last .0) (c .before .before .before .before .put-decimal .result) 32) (c .before .before .before .before .put-decimal .result + 1) (decimal (c .before .before .before .before .before .before .before .args .figure)) ∙ length-set (c .before .before .before .before .put-decimal .last .0) (c .before .before .before .before .put-decimal .result) 32 ∙ kept (c .before .before .before .before)
 
 returns : tie.Need-returns
 returns c =
@@ -23,6 +16,13 @@ returns c =
     let row = c .before .before .before .before .before .before .put-decimal .ensures in
     let figure = c .before .before .put-decimal2 .ensures in
     (omega (arith, row .0, figure .0, line-length (a .row) (a .figure)), ap (λ (l : List ℕ). set l (c .before .before .put-decimal2 .result) 10) (figure .1 ∙ ap (λ (l : List ℕ). sets (set l (c .before .before .before .before .before .before .put-decimal .result) 32) (c .before .before .before .before .before .before .put-decimal .result + 1) (decimal (a .figure))) (row .1)) ∙ line-stored (a .text .now) (a .row) (a .figure) (a .at) (row .0) (figure .0))
+
+-- the text keeps its length
+kept : (c : tie.After-put-decimal) → length (c .put-decimal .last .0) ≡ length (c .before .before .before .args .text .now)
+kept c = c .put-decimal .kept .0
+
+kept-2 : (c : tie.After-put-decimal2) → length (c .put-decimal2 .last .0) ≡ length (c .before .before .before .before .before .before .before .args .text .now)
+kept-2 c = c .put-decimal2 .kept .0 ∙ length-set (c .before .before .before .before .put-decimal .last .0) (c .before .before .before .before .put-decimal .result) 32 ∙ kept (c .before .before .before .before)
 
 -- and there is room for both numbers
 row-room : (c : tie.Start) → length (decimal (c .args .row)) ≤ 10

@@ -25,7 +25,7 @@ abbrev start : tie.Start → List ℕ
 start c = sets (c .args .text .now) 0 refusedWord
 
 kept : (c : tie.After-put-decimal) → length (c .put-decimal .last .0) ≡ length (c .before .before .before .before .args .text .now)
-kept c = ap length (c .put-decimal .ensures .1) ∙ length-sets (start (c .before .before .before .before)) 8 (decimal (c .before .refusal-reply .result .number)) ∙ length-sets (c .before .before .before .before .args .text .now) 0 refusedWord
+kept c = c .put-decimal .kept .0 ∙ length-sets (c .before .before .before .before .args .text .now) 0 refusedWord
 
 returns : tie.Need-returns
 returns c =
