@@ -54,6 +54,8 @@ typedef struct telhavina_reply {
  *            4  period T         1 to 1,000,000
  *            5  deadline D       1 to T
  *            6  jitter J         0 to D
+ *          A frame counts with the most stuff bits that so many bits could need: s bytes are 55 + 10s bit times in form 1 and 80 + 10s
+ *          in form 2. In form 0 the size is taken as it stands: the stuff bits and the gap to the next frame must be in it.
  * order    the row numbers, highest priority first: each row once, the rows of a FIFO next to each other
  * figures  room for a word a row, or more. Places past the last row are never written.
  *

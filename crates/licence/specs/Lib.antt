@@ -1,3 +1,4 @@
 pub mod Limit
 pub mod Row
 pub mod Laws
+pub mod Stuffing

@@ -1,5 +1,5 @@
 -- One row of the licence table, after document 01: which words are allowed, the record that a row is read into, its length C,
--- its time allowed E and its band's key. Definitions only: what follows from them is in Laws.
+-- its time allowed E and its band's key. Definitions only: what follows from them is in Laws and Stuffing.
 -- Assumes nothing.
 use Prim.Native.Nat.{ℕ, _+_, _-_, _*_, _/_}
 use mathlib.Core.Bool.{Bool, cond, not, _&&_}
@@ -67,9 +67,9 @@ abbrev pub fieldOf : Reading → ℕ
 fieldOf (Good row) = 0
 fieldOf (Bad f) = f
 
--- a frame 'with s bytes: C = g + 8s + 13 + (g + 8s) / 5, division rounded down'
+-- a frame with s bytes: 'C = g + 8s + 13 + (g + 8s - 1) / 4, rounded down' (request L2)
 abbrev pub frame : (g s : ℕ) → ℕ
-frame g s = g + 8 * s + 13 + (g + 8 * s) / 5
+frame g s = g + 8 * s + 13 + (g + 8 * s - 1) / 4
 
 -- C: 'form 0: C is the size. Forms 1 (11-bit identifier, g = 34) and 2 (29-bit, g = 54)'
 unfoldable pub bitTimes : Length → ℕ

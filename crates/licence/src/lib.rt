@@ -151,13 +151,13 @@ pub fn field_of(r: Reading) -> u32
     }
 }
 
-// The bit times of a frame with s bytes, one stuff bit in five among them.
+// The bit times of a frame with s bytes: at worst a stuff bit comes after the first five bits, and after every four more.
 fn frame_times(g: u32, s: u32) -> u32
-    requires { ⌜ frame g s ≤ 4096 ⌝ }
+    requires { ⌜ (0 < g) × (frame g s ≤ 4096) ⌝ }
     ensures { λ r. ⌜ r ≡ frame g s ⌝ }
 {
     let bits = g + 8 * s;
-    bits + 13 + bits / 5
+    bits + 13 + (bits - 1) / 4
 }
 
 // A length in bit times: the C of its row.

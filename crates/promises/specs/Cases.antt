@@ -1,5 +1,5 @@
--- The sums done by hand in document 01, cases a to k, as one list, and the claim that the written rules give these results: for each case the
--- statement that the contract of judging or finding cites, and for k the length C.
+-- The sums done by hand in document 01, cases a to k, k with the numbers of request L2, as one list, and the claim that the written rules give
+-- these results: for each case the statement that the contract of judging or finding cites, and for k the length C.
 -- Assumes nothing.
 use Prim.Native.Nat.{ℕ}
 use native.Mathlib.Decide.{ℕ-discrete, decLe}
@@ -92,14 +92,14 @@ cases =
     ∷ finding tableI (answer 8 2 2) (9999 ∷ 9999 ∷ [])
     -- j
     ∷ judging (row 0 10 100 50 50 ∷ []) (0 ∷ []) (late 0) (0 ∷ [])
-    -- k
-    ∷ length-of 1 0 53
-    ∷ length-of 2 0 77
-    ∷ length-of 1 8 130
-    ∷ length-of 2 8 154
+    -- k, by request L2
+    ∷ length-of 1 0 55
+    ∷ length-of 2 0 80
+    ∷ length-of 1 8 135
+    ∷ length-of 2 8 160
     ∷ []
 
--- Every case of document 01, a to k, is as the written rules have it.
+-- Every case, a to k, is as the written rules have it.
 abbrev pub AsWritten : Type 0
 AsWritten = (c : Case) → List·Memᴰ c cases → Right c
 

@@ -89,9 +89,10 @@ impl Row {
     }
 }
 
-/// Bit times of a frame of which so many bits may need one stuff bit in five.
+/// Bit times of a frame of which so many bits may need stuff bits. A stuff bit itself counts toward
+/// the next five equal bits, so at worst one follows the first five bits and one each four more.
 fn stuffed(bits: u32) -> u32 {
-    bits + 13 + bits / 5
+    bits + 13 + (bits - 1) / 4
 }
 
 impl Frame {

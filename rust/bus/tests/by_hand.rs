@@ -125,10 +125,10 @@ fn above_and_below() {
     assert_eq!(bus.below(HIGH), [LOW, FIFO_A, FIFO_B]);
 }
 
-// Document 01, case k: 'Forms 1 and 2 with 0 bytes: 53 and 77; with 8 bytes: 130 and 154'.
+// Request L2: 'In case k the four numbers become 55, 80, 135 and 160. Form 0 rows keep their C'.
 #[test]
 fn lengths_by_frame_format() {
-    for (form, bytes, c) in [(1, 0, 53), (2, 0, 77), (1, 8, 130), (2, 8, 154), (0, 8, 8)] {
+    for (form, bytes, c) in [(1, 0, 55), (2, 0, 80), (1, 8, 135), (2, 8, 160), (0, 8, 8)] {
         assert_eq!(Bus::new(&[0, form, bytes, 1000, 1000, 0], &[0]).rows[0].c, c);
     }
 }

@@ -41,7 +41,9 @@ the file
   name      Any text without a comma or quotes; no two are alike.
   queue     priority, or fifo N with N from 1 to 64.
   length    std N: N bytes, 11-bit identifier; ext N: N bytes, 29-bit identifier (0 to 8 bytes);
-            bits N: N bit times, 1 to 4096.
+            bits N: N bit times, 1 to 4096. A frame counts with the most stuff bits that so many
+            bits could need: std N is 55 + 10N bit times and ext N is 80 + 10N. bits N is taken as
+            it stands: the stuff bits and the gap to the next frame must be in it.
   period    1 to 1000000 bit times.
   deadline  From 1 bit time to the period.
   jitter    From 0 to the deadline.

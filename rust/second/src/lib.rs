@@ -1,5 +1,5 @@
 //! The second program: it judges priority orders and finds them, and reads and writes books; it is
-//! written from document 01 and request L1 alone.
+//! written from document 01 and requests L1 and L2 alone.
 //!
 //! It is there to be compared with the proved library, in what it answers and in how long it
 //! takes, so it shares nothing with it: no code, no contract, not even a table of limits.

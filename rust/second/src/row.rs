@@ -97,7 +97,8 @@ fn good(word: u32, allowed: RangeInclusive<u32>, field: u32) -> Result<u32, u32>
     }
 }
 
-/// Bits of a frame of which `stuffable` may be stuffed, with one stuff bit in five.
+/// Bits of a frame of which `stuffable` may be stuffed: at worst after the first five and then
+/// after every four, since a stuff bit itself counts toward the next run of equal bits.
 fn stuffed(stuffable: u32) -> u32 {
-    stuffable + 13 + stuffable / 5
+    stuffable + 13 + (stuffable - 1) / 4
 }

@@ -8,7 +8,8 @@ const TRIES: u64 = 20_000;
 /// Cases that must have been small enough to try.
 const ENOUGH: u32 = 2_000;
 
-/// The figure of the row at `place`, by the words of document 01; `None` if it is late.
+/// The figure of the row at `place`, by the words of document 01 and, for its length, of request
+/// L2; `None` if it is late.
 fn figure(table: &[u32], order: &[u32], place: usize) -> Option<u64> {
     let field = |row: u32, field: usize| u64::from(table[6 * row as usize + field - 1]);
     let length = |row: u32| {
@@ -16,7 +17,7 @@ fn figure(table: &[u32], order: &[u32], place: usize) -> Option<u64> {
         if field(row, 2) == 0 {
             s
         } else {
-            g + 8 * s + 13 + (g + 8 * s) / 5
+            g + 8 * s + 13 + (g + 8 * s - 1) / 4
         }
     };
     let own = order[place];

@@ -1,4 +1,5 @@
-//! The sums done by hand at the end of document 01, put to the second program.
+//! The sums done by hand at the end of document 01, case k as request L2 changes it, put to the
+//! second program.
 
 use second::{find, judge, Reply};
 
@@ -121,7 +122,7 @@ fn j_jitter_takes_the_whole_deadline() {
 #[test]
 fn k_lengths_by_frame_format() {
     // One row alone: nothing above or below, so w = C and its figure is 2C.
-    for (form, bytes, c) in [(1, 0, 53), (2, 0, 77), (1, 8, 130), (2, 8, 154)] {
+    for (form, bytes, c) in [(1, 0, 55), (2, 0, 80), (1, 8, 135), (2, 8, 160)] {
         let lent = vec![2 * c, LENT, LENT];
         assert_eq!(judged(&[0, form, bytes, 1000, 1000, 0], &[0]), (Reply::Passed, lent));
     }

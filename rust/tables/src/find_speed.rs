@@ -11,7 +11,7 @@ use crate::style::{Length, Style};
 use crate::{Case, FindCase};
 
 /// The least length of a row on a vehicle's bus.
-const SHORTEST: u32 = 53;
+const SHORTEST: u32 = 55;
 
 /// All families for finding, with so many tables each.
 pub fn find_families(tables: u64) -> Vec<Family<FindCase>> {

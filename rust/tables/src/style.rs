@@ -59,7 +59,7 @@ impl Length {
     /// A frame of either format.
     pub(crate) fn frame(prng: &mut Prng) -> Length {
         let (form, size) = (prng.between(1, 2), prng.between(0, MAX_BYTES));
-        Length { form, size, about: 65 + 10 * size }
+        Length { form, size, about: 67 + 10 * size }
     }
 
     /// Bit times or a frame.

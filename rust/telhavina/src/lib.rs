@@ -21,6 +21,10 @@
 //! | 5 | deadline D | 1 to T |
 //! | 6 | jitter J | 0 to D |
 //!
+//! A frame counts with the most stuff bits that so many bits could need: s bytes are 55 + 10s bit
+//! times in form 1 and 80 + 10s in form 2. In form 0 the size is taken as it stands: the stuff bits
+//! and the gap to the next frame must be in it.
+//!
 //! # The order and the figures
 //!
 //! The order lists all row numbers, highest priority first, and keeps the rows of each FIFO

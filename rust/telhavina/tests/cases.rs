@@ -100,14 +100,18 @@ fn j_jitter_takes_the_whole_deadline() {
     answers(&words(&[(0, 10, 100, 50, 50)]), &[0], Late { place: 0 }, &[0]);
 }
 
-// Document 01, case k: 'Forms 1 and 2 with 0 bytes: 53 and 77; with 8 bytes: 130 and 154'. These
-// are lengths C. A row alone has nothing above or below, so F(w) = max(0, C), w = C, and its
-// figure is w + C = 2C: twice the length, and just within a deadline of that.
+// Document 01, case k, by request L2: 'the four numbers become 55, 80, 135 and 160'. These are
+// lengths C, the first two and 10 more for each byte, as the header says. A row alone has nothing
+// above or below, so F(w) = max(0, C), w = C, and its figure is w + C = 2C: twice the length, and
+// just within a deadline of that.
 #[test]
 fn k_lengths_by_frame_format() {
-    for (form, bytes, c) in [(1, 0, 53), (2, 0, 77), (1, 8, 130), (2, 8, 154)] {
-        answers(&[0, form, bytes, 1000, 2 * c, 0], &[0], Passed, &[2 * c]);
-        answers(&[0, form, bytes, 1000, 2 * c - 1, 0], &[0], Late { place: 0 }, &[0]);
+    for (form, least) in [(1, 55), (2, 80)] {
+        for bytes in 0..=8 {
+            let c = least + 10 * bytes;
+            answers(&[0, form, bytes, 1000, 2 * c, 0], &[0], Passed, &[2 * c]);
+            answers(&[0, form, bytes, 1000, 2 * c - 1, 0], &[0], Late { place: 0 }, &[0]);
+        }
     }
 }
 

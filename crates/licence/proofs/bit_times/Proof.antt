@@ -1,4 +1,6 @@
--- `licence::bit_times` meets its contract: what `frame_times` requires is the bound on the length, at its kind. Assumes nothing.
+-- `licence::bit_times` meets its contract: what `frame_times` requires is some bits beside the bytes, and the bound on the length, at its kind.
+-- Assumes nothing.
+use lib.Dec.{lit<}
 use borrow.Author.Needs.{needs}
 use Rattle.licence.specs.Row.{bitTimes}
 use Rattle.licence.proofs.bit_times.Statement.{statement}
@@ -6,11 +8,11 @@ use Rattle.licence.proofs.bit_times.Tie as tie
 
 frame-times-requires : tie.Need-frame-times-requires
 unfolding bitTimes
-frame-times-requires c κs = rw (c .before .l2 .given .1) at (c .before .before .before .pre)
+frame-times-requires c κs = (lit< tt, rw (c .before .l2 .given .1) at (c .before .before .before .pre))
 
 frame-times-requires-2 : tie.Need-frame-times-requires-2
 unfolding bitTimes
-frame-times-requires-2 c κs = rw (c .before .l3 .given .1) at (c .before .before .before .pre)
+frame-times-requires-2 c κs = (lit< tt, rw (c .before .l3 .given .1) at (c .before .before .before .pre))
 
 pub bit-times-spec : {M : Type 1} → statement M
 unfolding bitTimes
