@@ -12,8 +12,8 @@ use borrow.Author.Tests.{eqb-true, eqb-false}
 use Rattle.licence.specs.declared.Length.the-variants.{Std, Ext}
 use Rattle.licence.specs.Row.{frame, bitTimes}
 
--- ---- CAN's rule (ISO 11898-1): after five equal bits on the wire, be it at the end, one of the other value is put in, and that one 'itself
--- counts toward the next run of equal bits'
+-- ---- CAN's rule (ISO 11898-1): after five equal bits on the wire, also where they are the last, one of the other value is put in, and that
+-- one 'itself counts toward the next run of equal bits'
 
 -- the length of the run of equal bits that bit x ends, sent after a run of k bits of value b
 abbrev pub run : (b : Bool) (k : ℕ) (x : Bool) → ℕ
