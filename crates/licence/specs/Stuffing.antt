@@ -35,11 +35,11 @@ pub record Longest (n C : ℕ) : Type 0 where
   pub no-more : (bits : List Bool) → length bits ≡ n → sentIn bits ≤ C
   pub reached : (bits : List Bool) × (length bits ≡ n) × (sentIn bits ≡ C)
 
--- C of a frame with s bytes, of either format.
+-- C of a frame with s bytes is the longest, in either format.
 abbrev pub FramesLongest : Type 0
 FramesLongest = (s : ℕ) → Longest (34 + 8 * s) (bitTimes (Std s)) × Longest (54 + 8 * s) (bitTimes (Ext s))
 
--- And as the header tells it, ten bit times for each byte.
+-- And it is as the header tells it: ten bit times for each byte.
 abbrev pub FramesInTens : Type 0
 FramesInTens = (s : ℕ) → (bitTimes (Std s) ≡ 55 + 10 * s) × (bitTimes (Ext s) ≡ 80 + 10 * s)
 

@@ -6,14 +6,6 @@ use Rattle.licence.specs.Row.{bitTimes}
 use Rattle.licence.proofs.bit_times.Statement.{statement}
 use Rattle.licence.proofs.bit_times.Tie as tie
 
-frame-times-requires : tie.Need-frame-times-requires
-unfolding bitTimes
-frame-times-requires c κs = (lit< tt, rw (c .before .l2 .given .1) at (c .before .before .before .pre))
-
-frame-times-requires-2 : tie.Need-frame-times-requires-2
-unfolding bitTimes
-frame-times-requires-2 c κs = (lit< tt, rw (c .before .l3 .given .1) at (c .before .before .before .pre))
-
 pub bit-times-spec : {M : Type 1} → statement M
 unfolding bitTimes
 bit-times-spec =
@@ -21,9 +13,9 @@ bit-times-spec =
     (tie.spec
     (λ c. search needs)
     (λ c. search needs)
-    frame-times-requires
+    (λ c κs. (lit< tt, rw (c .before .l2 .given .1) at (c .before .before .before .pre)))
     (λ c. search needs)
-    frame-times-requires-2
+    (λ c κs. (lit< tt, rw (c .before .l3 .given .1) at (c .before .before .before .pre)))
     (λ c. cc)
     (λ c. cc)
     (λ c. cc))
