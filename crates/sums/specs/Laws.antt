@@ -111,6 +111,26 @@ sum-add (suc n) m f g = go (m n) (sum-add n m f g)
     go true ih = omega arith
     go false ih = omega arith
 
+-- ---- a sum row by row
+
+module _ (m : Mask) (f : ℕ → ℕ) where
+  -- on top of any number, with the next row
+  pub sum-turn : (base k : ℕ) {x y : ℕ} → m k ≡ true → x ≡ base + sumOver k m f → y ≡ x + f k → y ≡ base + sumOver (k + 1) m f
+  sum-turn base k t e h =
+      let s = over-next _+_ 0 k m f ∙ ap (λ (b : Bool). sumOver k m f + cond b (f k) 0) t in
+      omega arith
+
+  -- some of the rows have no more than all
+  pub sum-part : (k n : ℕ) → k ≤ n → sumOver k m f ≤ sumOver n m f
+  unfolding over
+  sum-part zero zero l = le-refl _
+  sum-part (suc k) zero l = absurd (omega arith)
+  sum-part k (suc n) l = go (eq-or-lt-of-le l) (sum-part k n)
+    where
+      go : (k ≡ suc n) ⊎ (k < suc n) → (k ≤ n → sumOver k m f ≤ sumOver n m f) → sumOver k m f ≤ sumOver (suc n) m f
+      go (inl e) ih = rw e (le-refl _)
+      go (inr q) ih = let i = ih (omega arith) in omega arith
+
 -- ---- sum, greatest and least have bounds
 
 cond-most : (b : Bool) (x v : ℕ) → x ≤ v → cond b x 0 ≤ v
@@ -228,27 +248,3 @@ pub demand-same : (n : ℕ) (C T J C′ T′ J′ : ℕ → ℕ) (base base′ :
 unfolding demand
 demand-same n C T J C′ T′ J′ base base′ above above′ hb ha h w =
     cc (hb, over-same _+_ 0 n above above′ (load C T J w) (load C′ T′ J′ w) ha (λ k l. let q = h k l in load-same C T J C′ T′ J′ w k k (q .0) (q .1) (q .2)))
-
--- F is never below its constant part
-pub demand-base : (n : ℕ) (C T J : ℕ → ℕ) (base : ℕ) (above : Mask) (w : ℕ) → base ≤ demand n C T J base above w
-unfolding demand
-demand-base n C T J base above w = omega arith
-
--- F row by row
-module _ (C T J : ℕ → ℕ) (base : ℕ) (above : Mask) (w : ℕ) where
-  pub demand-turn : (k : ℕ) {x y : ℕ} → above k ≡ true → x ≡ demand k C T J base above w → y ≡ x + load C T J w k → y ≡ demand (k + 1) C T J base above w
-  unfolding demand
-  demand-turn k t e h =
-      let s = over-next _+_ 0 k above (load C T J w) ∙ ap (λ (b : Bool). sumOver k above (load C T J w) + cond b (load C T J w k) 0) t in
-      omega arith
-
-  -- some of the rows ask no more than all
-  pub demand-part : (k n : ℕ) → k ≤ n → demand k C T J base above w ≤ demand n C T J base above w
-  unfolding demand over
-  demand-part zero zero l = le-refl _
-  demand-part (suc k) zero l = absurd (omega arith)
-  demand-part k (suc n) l = go (eq-or-lt-of-le l) (demand-part k n)
-    where
-      go : (k ≡ suc n) ⊎ (k < suc n) → (k ≤ n → demand k C T J base above w ≤ demand n C T J base above w) → demand k C T J base above w ≤ demand (suc n) C T J base above w
-      go (inl e) ih = rw e (le-refl _)
-      go (inr q) ih = let i = ih (omega arith) in omega arith

@@ -1,9 +1,10 @@
 // The search for the least solution of the equation for w. Numbers only: rows come as lists of their C, T and J.
 ghost use mathlib.Core.Path.{_≡_};
 ghost use Prim.Native.Nat.{_+_, _*_, _≤_};
+ghost use lib.ListN.{length};
 ghost use Rattle.sums.specs.Columns.{Columns, at};
 ghost use Rattle.sums.specs.Masks.{run, outside};
-ghost use Rattle.sums.specs.Sums.{ceil, demand};
+ghost use Rattle.sums.specs.Sums.{sumOver, ceil, demand};
 ghost use Rattle.sums.specs.Least.{SettledIs, DemandIs};
 
 // The least solution within a cap, or that there is none within it.
@@ -82,6 +83,35 @@ fn demand_around(
     demand_within(sum, e, n, c, t, j, cap, w)
 }
 
+// `start` and the lengths of the rows of the places from .. to - 1, as far as the cap.
+fn lengths_within(start: u32, from: usize, to: usize, c: &[u32], cap: u32) -> Demand
+    requires { ⌜ (to ≤ length (now c)) × (from ≤ to) × (start ≤ cap) ⌝ }
+    ensures { λ r. ⌜ DemandIs (start + sumOver to (run from to) (at (now (c .entry)))) cap r ⌝ }
+{
+    let mut sum = wide(start);
+    let mut k = from;
+    while k < to {
+        sum += wide(c[k]);
+        if wide(cap) < sum {
+            return Demand::Past;
+        }
+        k += 1;
+    }
+    Demand::Is(sum as u32)
+}
+
+// The constant part and the lengths of the rows of the places below n outside s .. e - 1, as far as the cap.
+fn lengths_around(base: u32, n: usize, s: usize, e: usize, c: &[u32], cap: u32) -> Demand
+    requires { ⌜ (n ≤ length (now c)) × (s ≤ e) × (e ≤ n) × (base ≤ cap) ⌝ }
+    ensures { λ r. ⌜ DemandIs (base + sumOver n (outside s e) (at (now (c .entry)))) cap r ⌝ }
+{
+    let part = lengths_within(base, 0, s, c, cap);
+    let Demand::Is(sum) = part else {
+        return Demand::Past;
+    };
+    lengths_within(sum, e, n, c, cap)
+}
+
 // The least w with F(w) = w for the rows of the places below n outside s .. e - 1, if it is within the cap.
 pub fn least_around(
     base: u32,
@@ -99,7 +129,12 @@ pub fn least_around(
     if cap < base {
         return Settled::Never;
     }
-    let mut w = base;
+    // Each row above counts at least once, so no w below the start is a solution.
+    let lengths = lengths_around(base, n, s, e, c, cap);
+    let Demand::Is(start) = lengths else {
+        return Settled::Never;
+    };
+    let mut w = start;
     loop {
         let sum = demand_around(base, n, s, e, c, t, j, cap, w);
         let Demand::Is(next) = sum else {

@@ -1,23 +1,22 @@
 -- `sums::demand_around` meets its contract: what the rows before the run ask is where the rows behind it start. Assumes nothing.
 use borrow.Author.Needs.{needs}
 use native.Mathlib.Omega.{arith}
-use Prim.Native.Nat.{ℕ, _≤_}
-use mathlib.Core.Path.{_≡_, ap, subst, _∙_}
+use Prim.Native.Nat.{_≤_}
+use mathlib.Core.Path.{_≡_}
 use Rattle.sums.specs.Columns.{at}
 use Rattle.sums.specs.Masks.{run}
 use Rattle.sums.specs.Sums.{demand}
 use Rattle.sums.specs.ColumnLaws.{columns-part}
-use Rattle.sums.specs.Least.{DemandIs}
 use Rattle.sums.specs.Climb.{demand-is, demand-past}
-use Rattle.sums.specs.Runs.{demand-around, demand-before}
+use Rattle.sums.specs.Runs.{past-before, capped-around}
 use Rattle.sums.proofs.demand_around.Statement.{statement}
 use Rattle.sums.proofs.demand_around.Tie as tie
 
 returns : tie.Need-returns
+unfolding demand
 returns c =
-    let s = c .before .before .before .before .before .before in
-    let past = demand-past _ _ (c .before .before .demand-within .ensures) (c .enum-told .given .1) in
-    omega (arith, past, demand-before (at (s .args .c .now)) (at (s .args .t .now)) (at (s .args .j .now)) (s .args .base) (s .args .w) (s .args .n) (s .args .s) (s .args .e) (s .pre .1) (s .pre .2))
+    let p = c .before .before .before .before .before .before .pre in
+    past-before _ _ _ _ _ (p .1) (p .2) _ (demand-past _ _ (c .before .before .demand-within .ensures) (c .enum-told .given .1))
 
 -- what the rows before the run ask, and that it is within the cap
 part : (c : tie.After-known-told) → let a = c .before .before .before .before .before .before .before .args in
@@ -28,13 +27,10 @@ demand-within-requires-2 : tie.Need-demand-within-requires-2
 demand-within-requires-2 c κs = let p = c .before .before .before .before .before .before .before .pre in (p .0, p .2, part c .1, p .4, p .5)
 
 returns-2 : tie.Need-returns-2
+unfolding demand
 returns-2 c =
-    let s = c .before .before .before .before .before .before .before .before in
-    let a = s .args in
-    subst (λ (x : ℕ). DemandIs x (a .cap) (c .demand-within2 .result))
-    (ap (λ (x : ℕ). demand (a .n) (at (a .c .now)) (at (a .t .now)) (at (a .j .now)) x (run (a .e) (a .n)) (a .w)) (part (c .before) .0)
-    ∙ demand-around (at (a .c .now)) (at (a .t .now)) (at (a .j .now)) (a .base) (a .w) (a .n) (a .s) (a .e) (s .pre .1) (s .pre .2))
-    (c .demand-within2 .ensures)
+    let p = c .before .before .before .before .before .before .before .before .pre in
+    capped-around _ _ _ _ _ (p .1) (p .2) _ (c .demand-within2 .result) (part (c .before) .0) (c .demand-within2 .ensures)
 
 pub demand-around-spec : {M : Type 1} → statement M
 demand-around-spec =

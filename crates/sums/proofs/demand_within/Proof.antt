@@ -7,8 +7,8 @@ use mathlib.Core.Path.{_≡_, sym, ap₂}
 use Rattle.sums.specs.Columns.{at}
 use Rattle.sums.specs.Masks.{run}
 use Rattle.sums.specs.Sums.{demand, load}
-use Rattle.sums.specs.Laws.{demand-turn, demand-part}
-use Rattle.sums.specs.Runs.{run-true, demand-start}
+use Rattle.sums.specs.Laws.{sum-turn, sum-part}
+use Rattle.sums.specs.Runs.{run-true, sum-start}
 use Rattle.sums.proofs.demand_within.Statement.{statement}
 use Rattle.sums.proofs.demand_within.Tie as tie
 
@@ -19,7 +19,8 @@ abbrev μ-loop : tie.MeasureT-loop
 μ-loop start from to c t j cap w sum₀ k₀ sum k = to - k
 
 loop-holds : tie.Need-loop-holds Inv-loop μ-loop
-loop-holds c = (omega arith, omega arith, omega arith, sym (demand-start _ _ _ _ _ _ _))
+unfolding demand
+loop-holds c = (omega arith, omega arith, omega arith, sym (sum-start _ _ _ _))
 
 load-of-requires : tie.Need-load-of-requires Inv-loop μ-loop
 load-of-requires c κs =
@@ -32,16 +33,17 @@ load-of-requires c κs =
 -- the sum with row k
 with-row : (c : tie.After-load-of Inv-loop μ-loop) → let a = c .before .before .before .before .before .before .before .before .before .before .args in
     c .before .before .before .before .wide .result + c .load-of .result ≡ demand (c .before .before .before .before .before .before .loop .k + 1) (at (a .c .now)) (at (a .t .now)) (at (a .j .now)) (a .start) (run (a .from) (a .to)) (a .w)
-unfolding load
+unfolding demand load
 with-row c =
     let a = c .before .before .before .before .before .before .before .before .before .before .args in
-    demand-turn _ _ _ _ _ _ _ (run-true (a .from) (a .to) (c .before .before .before .before .before .before .loop .k) (omega arith) (omega arith)) (c .before .before .before .before .before .before .loop .inv .3) (ap₂ _+_ (c .before .before .before .before .wide .ensures) (c .load-of .ensures .0))
+    sum-turn _ _ _ _ (run-true (a .from) (a .to) (c .before .before .before .before .before .before .loop .k) (omega arith) (omega arith)) (c .before .before .before .before .before .before .loop .inv .3) (ap₂ _+_ (c .before .before .before .before .wide .ensures) (c .load-of .ensures .0))
 
 returns : tie.Need-returns Inv-loop μ-loop
+unfolding demand
 returns c =
     let a = c .before .before .before .before .before .before .before .before .before .before .before .before .args in
     let k = c .before .before .before .before .before .before .before .before .loop .k in
-    omega (arith, with-row (c .before .before), demand-part (at (a .c .now)) (at (a .t .now)) (at (a .j .now)) (a .start) (run (a .from) (a .to)) (a .w) (k + 1) (a .to) (omega arith))
+    omega (arith, with-row (c .before .before), sum-part (run (a .from) (a .to)) (load (at (a .c .now)) (at (a .t .now)) (at (a .j .now)) (a .w)) (k + 1) (a .to) (omega arith))
 
 loop-again : tie.Need-loop-again Inv-loop μ-loop
 loop-again c = (omega arith, omega arith, omega arith, with-row (c .before .before))
