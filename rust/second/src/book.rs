@@ -5,6 +5,7 @@
 //! words each, low byte first, and with the last of them the file ends.
 
 use crate::row::FIELDS;
+use crate::sums::ConstantAndLengths;
 use crate::{found, judged, number, rows_of_words, Reply, MAX_ROWS};
 
 /// Bytes of the row count.
@@ -101,8 +102,8 @@ fn lines(book: &[u8]) -> Result<String, Reply> {
     let mut order = [0; MAX_ROWS];
     let mut figures = [0; MAX_ROWS];
     let order = &mut order[..rows];
-    found(table, order)?;
+    found::<ConstantAndLengths>(table, order)?;
     // What is found passes, so every row has a figure.
-    judged(table, order, &mut figures)?;
+    judged::<ConstantAndLengths>(table, order, &mut figures)?;
     Ok(order.iter().map(|&row| format!("{row} {}\n", figures[row as usize])).collect())
 }

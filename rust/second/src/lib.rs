@@ -1,11 +1,12 @@
 //! The second program: it judges priority orders and finds them, and reads and writes books; it is
-//! written from document 01 and requests L1 and L2 alone.
+//! written from document 01 and requests L1 to L3 alone.
 //!
 //! It is there to be compared with the proved library, in what it answers and in how long it
 //! takes, so it shares nothing with it: no code, no contract, not even a table of limits.
 
 mod book;
 mod find;
+pub mod old_start;
 mod order;
 mod row;
 mod sums;
@@ -13,6 +14,7 @@ mod sums;
 pub use book::{listing, read_book, write_book};
 
 use row::{Row, FIELDS};
+use sums::{ConstantAndLengths, Start};
 
 /// A table has at most this many rows.
 const MAX_ROWS: usize = 64;
@@ -92,33 +94,33 @@ impl Reply {
 ///
 /// A refusal alters no word of `figures`, and places past the last row are never written.
 pub fn judge(table: &[u32], order: &[u32], figures: &mut [u32]) -> Reply {
-    judged(table, order, figures).unwrap_or_else(|refusal| refusal)
+    judged::<ConstantAndLengths>(table, order, figures).unwrap_or_else(|refusal| refusal)
 }
 
 /// Finds an order over `table` and puts it into the first places of `order`.
 ///
 /// A refusal alters no word of `order`, and places past the last row are never written.
 pub fn find(table: &[u32], order: &mut [u32]) -> Reply {
-    found(table, order).unwrap_or_else(|refusal| refusal)
+    found::<ConstantAndLengths>(table, order).unwrap_or_else(|refusal| refusal)
 }
 
 /// What was judged (passed or late), or else the first refusal of 1 to 7 that is due.
-fn judged(table: &[u32], order: &[u32], figures: &mut [u32]) -> Result<Reply, Reply> {
+fn judged<S: Start>(table: &[u32], order: &[u32], figures: &mut [u32]) -> Result<Reply, Reply> {
     let mut rows = [Row::NONE; MAX_ROWS];
     let rows = read_table(table, figures.len(), &mut rows)?;
     let mut placed = [Row::NONE; MAX_ROWS];
     let placed = place_rows(rows, order, &mut placed)?;
-    Ok(match sums::write_figures(placed, order, figures) {
+    Ok(match sums::write_figures::<S>(placed, order, figures) {
         None => Reply::Passed,
         Some(place) => Reply::Late(number(place)),
     })
 }
 
 /// What was found, or else the first refusal of 1 to 4 and 8 that is due.
-fn found(table: &[u32], order: &mut [u32]) -> Result<Reply, Reply> {
+fn found<S: Start>(table: &[u32], order: &mut [u32]) -> Result<Reply, Reply> {
     let mut rows = [Row::NONE; MAX_ROWS];
     let rows = read_table(table, order.len(), &mut rows)?;
-    let (found, tried) = find::find_order(rows)?;
+    let (found, tried) = find::find_order::<S>(rows)?;
     order[..rows.len()].copy_from_slice(&found);
     Ok(Reply::Found(number(tried)))
 }
