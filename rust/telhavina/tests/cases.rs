@@ -1,5 +1,5 @@
-//! 'Sums done by hand' of document 01, put to the library across the C boundary. Every word of
-//! the lent list is looked at, those past the last row too.
+//! 'Sums done by hand' of document 01, and some about the start of request L3, put to the library
+//! across the C boundary. Every word of the lent list is looked at, those past the last row too.
 
 mod rows;
 
@@ -153,4 +153,41 @@ fn l_sizes_out_of_range() {
 fn l_period_out_of_range() {
     let refusal = Refusal::BadRow { row: 0, field: 4 };
     refuses(&[0, 0, 10, 1_000_001, 1000, 0], &[0], 1 + SPARE, refusal);
+}
+
+/// Two rows, and a third below them with this deadline.
+fn below_two_rows(first: Short, second: Short, deadline: u32) -> Vec<u32> {
+    words(&[first, second, (0, 20, 100, deadline, 0)])
+}
+
+// Request L3: the search of the third row starts at its C and the two above it, 20 + 3 + 4 = 27,
+// and F(27) = 20 + 3 + 4, for 28 / 28 and 50 / 50 are 1. So its figure is 27 + 20 = 47. With a
+// deadline of 47 the start is just within what is allowed, and with 46 just past it.
+#[test]
+fn l3_the_start_is_the_answer() {
+    let table = |deadline| below_two_rows((0, 3, 28, 28, 0), (0, 4, 50, 50, 22), deadline);
+    answers(&table(100), &[0, 1, 2], Passed, &[23, 27, 47]);
+    answers(&table(47), &[0, 1, 2], Passed, &[23, 27, 47]);
+    answers(&table(46), &[0, 1, 2], Late { place: 2 }, &[23, 27, 0]);
+}
+
+// Request L3: the start is 27 again, but 28 / 27 is rounded up to 2: F(27) = 20 + 6 + 4 = 30, and
+// so is F(30). With a deadline of 49 the start is within what is allowed but the answer is not,
+// with 47 the start is all that is allowed, and with 46 it is past that.
+#[test]
+fn l3_the_start_is_below_the_answer() {
+    let table = |deadline| below_two_rows((0, 3, 27, 27, 0), (0, 4, 60, 60, 22), deadline);
+    answers(&table(50), &[0, 1, 2], Passed, &[23, 27, 50]);
+    for deadline in [49, 47, 46] {
+        answers(&table(deadline), &[0, 1, 2], Late { place: 2 }, &[23, 27, 0]);
+    }
+}
+
+// Request L3, 'or at the FIFO's constant part', with the table of case c: 100 + 160 - 60 = 200, and
+// 80 above it. F(280) is 280, and the figure 280 + 60 = 340.
+#[test]
+fn l3_the_start_of_a_fifo() {
+    let table = |deadline| words(&[C[0], (1, 60, 1000, deadline, 0), C[2]]);
+    answers(&table(340), &[2, 0, 1], Passed, &[340, 340, 180]);
+    answers(&table(339), &[2, 0, 1], Late { place: 1 }, &[0, 0, 180]);
 }
