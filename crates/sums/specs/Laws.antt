@@ -111,25 +111,16 @@ sum-add (suc n) m f g = go (m n) (sum-add n m f g)
     go true ih = omega arith
     go false ih = omega arith
 
--- ---- a sum row by row
-
-module _ (m : Mask) (f : ℕ → ℕ) where
-  -- on top of any number, with the next row
-  pub sum-turn : (base k : ℕ) {x y : ℕ} → m k ≡ true → x ≡ base + sumOver k m f → y ≡ x + f k → y ≡ base + sumOver (k + 1) m f
-  sum-turn base k t e h =
-      let s = over-next _+_ 0 k m f ∙ ap (λ (b : Bool). sumOver k m f + cond b (f k) 0) t in
-      omega arith
-
-  -- some of the rows have no more than all
-  pub sum-part : (k n : ℕ) → k ≤ n → sumOver k m f ≤ sumOver n m f
-  unfolding over
-  sum-part zero zero l = le-refl _
-  sum-part (suc k) zero l = absurd (omega arith)
-  sum-part k (suc n) l = go (eq-or-lt-of-le l) (sum-part k n)
-    where
-      go : (k ≡ suc n) ⊎ (k < suc n) → (k ≤ n → sumOver k m f ≤ sumOver n m f) → sumOver k m f ≤ sumOver (suc n) m f
-      go (inl e) ih = rw e (le-refl _)
-      go (inr q) ih = let i = ih (omega arith) in omega arith
+-- some of the rows have no more than all
+pub sum-part : (m : Mask) (f : ℕ → ℕ) (k n : ℕ) → k ≤ n → sumOver k m f ≤ sumOver n m f
+unfolding over
+sum-part m f zero zero l = le-refl _
+sum-part m f (suc k) zero l = absurd (omega arith)
+sum-part m f k (suc n) l = go (eq-or-lt-of-le l) (sum-part m f k n)
+  where
+    go : (k ≡ suc n) ⊎ (k < suc n) → (k ≤ n → sumOver k m f ≤ sumOver n m f) → sumOver k m f ≤ sumOver (suc n) m f
+    go (inl e) ih = rw e (le-refl _)
+    go (inr q) ih = let i = ih (omega arith) in omega arith
 
 -- ---- sum, greatest and least have bounds
 

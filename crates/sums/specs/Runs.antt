@@ -68,12 +68,17 @@ max-runs s e n f se en =
     go k l (no a) (yes b) = rw (run-true s n k (omega arith) l, run-true s e k (omega arith) b)
     go k l (no a) (no b) = rw (run-true s n k (omega arith) l, run-true e n k (omega arith) l, or-true (run s e k))
 
--- sums over the rows around a run, on top of any number
+-- sums on top of any number
 module _ (base : ℕ) (f : ℕ → ℕ) where
-  -- before a run there is no row of it
-  pub sum-start : (s e : ℕ) → base + sumOver s (run s e) f ≡ base
-  sum-start s e = omega (arith, run-none _+_ 0 refl s e f)
+  -- over a run: nothing before it, and place by place in it
+  module _ (s e : ℕ) where
+    pub sum-start : base + sumOver s (run s e) f ≡ base
+    sum-start = omega (arith, run-none _+_ 0 refl s e f)
 
+    pub sum-turn : (p : ℕ) {x y : ℕ} → s ≤ p → p < e → x ≡ base + sumOver p (run s e) f → y ≡ x + f p → y ≡ base + sumOver (p + 1) (run s e) f
+    sum-turn p l h i j = omega (arith, run-next _+_ 0 refl s e f p l h)
+
+  -- over the rows around a run
   module _ (n s e : ℕ) (se : s ≤ e) (en : e ≤ n) where
     apart : (k : ℕ) → k < n → cond (outside s e k) (f k) 0 ≡ cond (run 0 s k) (f k) 0 + cond (run e n k) (f k) 0
     apart k l = go (decLt k s) (decLt k e)

@@ -57,7 +57,7 @@ fn finding() {
     assert!(with_order >= ENOUGH && none >= ENOUGH, "too few of one kind");
 }
 
-// Every w is then the latest allowed, and for the band of one row it is one past that.
+// Every w is then the latest allowed, and for the band of the row picked it is one past that.
 #[test]
 fn just_enough_time_and_just_too_little() {
     let mut passed = 0;

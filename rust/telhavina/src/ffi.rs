@@ -1,4 +1,4 @@
-//! The C boundary: the one module with `unsafe`, because the library is called as C.
+//! The C boundary: the crate's one module with `unsafe`, because the library is called as C.
 #![allow(unsafe_code)]
 
 /// The library's reply: its number, then what it carries, 0 where there is less.

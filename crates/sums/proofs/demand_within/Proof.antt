@@ -7,8 +7,8 @@ use mathlib.Core.Path.{_≡_, sym, ap₂}
 use Rattle.sums.specs.Columns.{at}
 use Rattle.sums.specs.Masks.{run}
 use Rattle.sums.specs.Sums.{demand, load}
-use Rattle.sums.specs.Laws.{sum-turn, sum-part}
-use Rattle.sums.specs.Runs.{run-true, sum-start}
+use Rattle.sums.specs.Laws.{sum-part}
+use Rattle.sums.specs.Runs.{sum-start, sum-turn}
 use Rattle.sums.proofs.demand_within.Statement.{statement}
 use Rattle.sums.proofs.demand_within.Tie as tie
 
@@ -36,7 +36,7 @@ with-row : (c : tie.After-load-of Inv-loop μ-loop) → let a = c .before .befor
 unfolding demand load
 with-row c =
     let a = c .before .before .before .before .before .before .before .before .before .before .args in
-    sum-turn _ _ _ _ (run-true (a .from) (a .to) (c .before .before .before .before .before .before .loop .k) (omega arith) (omega arith)) (c .before .before .before .before .before .before .loop .inv .3) (ap₂ _+_ (c .before .before .before .before .wide .ensures) (c .load-of .ensures .0))
+    sum-turn _ _ (a .from) (a .to) (c .before .before .before .before .before .before .loop .k) (omega arith) (omega arith) (c .before .before .before .before .before .before .loop .inv .3) (ap₂ _+_ (c .before .before .before .before .wide .ensures) (c .load-of .ensures .0))
 
 returns : tie.Need-returns Inv-loop μ-loop
 unfolding demand

@@ -1,5 +1,5 @@
--- `sums::least_around` meets its contract: it climbs, and stays within the cap. Where it starts is seen only by `below-start`.
--- Assumes nothing.
+-- `sums::least_around` meets its contract: it climbs, and stays within the cap. Where it starts is argued in `below-start`, and seen only
+-- before the loop. Assumes nothing.
 use borrow.Author.Needs.{needs}
 use native.Mathlib.Omega.{arith}
 use Prim.Native.Nat.{ℕ, _+_, _≤_, _-_}

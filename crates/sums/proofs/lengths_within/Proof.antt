@@ -7,8 +7,8 @@ use mathlib.Core.Path.{_≡_, sym, ap, _∙_}
 use Rattle.sums.specs.Columns.{at}
 use Rattle.sums.specs.Masks.{run}
 use Rattle.sums.specs.Sums.{sumOver}
-use Rattle.sums.specs.Laws.{sum-turn, sum-part}
-use Rattle.sums.specs.Runs.{run-true, sum-start}
+use Rattle.sums.specs.Laws.{sum-part}
+use Rattle.sums.specs.Runs.{sum-start, sum-turn}
 use Rattle.sums.proofs.lengths_within.Statement.{statement}
 use Rattle.sums.proofs.lengths_within.Tie as tie
 
@@ -27,7 +27,7 @@ with-row : (c : tie.After-wide2 Inv-loop μ-loop) → let a = c .before .before 
 with-row c =
     let a = c .before .before .before .before .before .before .args in
     let l = c .before .before .before .loop in
-    sum-turn _ _ _ _ (run-true (a .from) (a .to) (l .k) (omega arith) (omega arith)) (l .inv .3) (ap (λ (x : ℕ). l .sum + x) (c .wide2 .ensures))
+    sum-turn _ _ (a .from) (a .to) (l .k) (omega arith) (omega arith) (l .inv .3) (ap (λ (x : ℕ). l .sum + x) (c .wide2 .ensures))
 
 returns : tie.Need-returns Inv-loop μ-loop
 returns c =

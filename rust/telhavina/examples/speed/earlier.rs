@@ -3,6 +3,7 @@
 #![allow(unsafe_code)]
 
 use std::ffi::{c_char, c_int, c_void, CStr, CString};
+use std::fs::canonicalize;
 use std::mem::transmute;
 
 use crate::Answer;
@@ -14,8 +15,8 @@ struct Reply {
     second: u32,
 }
 
-type Judge = extern "C" fn(*const u32, usize, *const u32, usize, *mut u32, usize) -> Reply;
-type Find = extern "C" fn(*const u32, usize, *mut u32, usize) -> Reply;
+type Judge = unsafe extern "C" fn(*const u32, usize, *const u32, usize, *mut u32, usize) -> Reply;
+type Find = unsafe extern "C" fn(*const u32, usize, *mut u32, usize) -> Reply;
 
 unsafe extern "C" {
     fn dlopen(path: *const c_char, mode: c_int) -> *mut c_void;
@@ -35,20 +36,20 @@ pub struct Earlier {
 impl Earlier {
     /// The library of this shared object; it is never closed.
     pub fn open(path: &str) -> Earlier {
-        let name = CString::new(path).expect("a path has no NUL");
-        // SAFETY: the name is a string that ends in NUL.
+        // A name without a directory would be looked for where the system keeps its libraries.
+        let whole = canonicalize(path).unwrap_or_else(|error| panic!("{path}: {error}"));
+        let name = CString::new(whole.into_os_string().into_encoded_bytes()).expect("no NUL");
+        // SAFETY: the name is a string that ends in NUL. Opening runs what the object runs at its
+        // start, and a library of ours runs nothing.
         let object = unsafe { dlopen(name.as_ptr(), RTLD_NOW) };
-        assert!(
-            !object.is_null(),
-            "{path} cannot be opened: a path without / is looked for elsewhere"
-        );
+        assert!(!object.is_null(), "{path} cannot be opened as a shared object");
         let function = |name: &CStr| {
             // SAFETY: the object is open, and the name is a string that ends in NUL.
             let function = unsafe { dlsym(object, name.as_ptr()) };
             assert!(!function.is_null(), "{path} has no {name:?}");
             function
         };
-        // SAFETY: with these names the header has functions of these types, in every edition.
+        // SAFETY: ever since there were functions of these names, they have had these types.
         unsafe {
             Earlier {
                 judge: transmute::<*mut c_void, Judge>(function(c"telhavina_judge")),
@@ -58,18 +59,23 @@ impl Earlier {
     }
 
     pub fn judge(&self, table: &[u32], order: &[u32], figures: &mut [u32]) -> Answer {
-        answer((self.judge)(
-            table.as_ptr(),
-            table.len(),
-            order.as_ptr(),
-            order.len(),
-            figures.as_mut_ptr(),
-            figures.len(),
-        ))
+        // SAFETY: as for the present library (src/ffi.rs): each pointer and length come from one
+        // slice, and only `figures` is written.
+        answer(unsafe {
+            (self.judge)(
+                table.as_ptr(),
+                table.len(),
+                order.as_ptr(),
+                order.len(),
+                figures.as_mut_ptr(),
+                figures.len(),
+            )
+        })
     }
 
     pub fn find(&self, table: &[u32], order: &mut [u32]) -> Answer {
-        answer((self.find)(table.as_ptr(), table.len(), order.as_mut_ptr(), order.len()))
+        // SAFETY: as for judging; only `order` is written.
+        answer(unsafe { (self.find)(table.as_ptr(), table.len(), order.as_mut_ptr(), order.len()) })
     }
 }
 

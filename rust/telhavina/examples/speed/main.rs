@@ -7,7 +7,7 @@
 mod earlier;
 
 use std::env;
-use std::fmt::Debug;
+use std::fmt::{Debug, Display};
 use std::hint::black_box;
 use std::time::{Duration, Instant};
 
@@ -21,7 +21,7 @@ const TABLES: u64 = 40;
 /// How long each of the two runs lasts.
 const RUN: Duration = Duration::from_secs(20);
 
-/// A reply by number, and what it carries, 0 where there is less.
+/// A reply by its number in the header, and what it carries, 0 where there is less.
 type Answer = [u32; 3];
 
 /// Those that are timed.
@@ -34,7 +34,7 @@ enum Program {
 }
 
 /// A question that every program is asked.
-trait Question: Sized {
+trait Question: Display + Sized {
     /// What stands above the columns of `counts`.
     const COUNTED: &'static str;
 
@@ -123,7 +123,7 @@ fn agreed<Q: Question>(question: &Q, programs: &[Program]) -> Answer {
     };
     let library = answered(programs[0]);
     for &other in &programs[1..] {
-        assert_eq!(library, answered(other), "the library and: {}", other.name());
+        assert_eq!(library, answered(other), "library and {}, on\n{question}", other.name());
     }
     library.0
 }
@@ -147,10 +147,10 @@ impl Question for Case {
             Program::Library => match telhavina::judge(table, order, figures) {
                 Judgement::Passed => [100, 0, 0],
                 Judgement::Late { place } => [101, place as u32, 0],
-                Judgement::Refused(refusal) => refused(refusal),
+                Judgement::Refused(refusal) => refused(self, refusal),
             },
-            Program::Second => by_number(second::judge(table, order, figures)),
-            Program::OldStart => by_number(old_start::judge(table, order, figures)),
+            Program::Second => by_number(self, second::judge(table, order, figures)),
+            Program::OldStart => by_number(self, old_start::judge(table, order, figures)),
             Program::Earlier(earlier) => earlier.judge(table, order, figures),
         }
     }
@@ -176,10 +176,10 @@ impl Question for FindCase {
                 Finding::Refused(Refusal::NoOrder { unplaced, tried }) => {
                     [8, unplaced as u32, tried as u32]
                 }
-                Finding::Refused(refusal) => refused(refusal),
+                Finding::Refused(refusal) => refused(self, refusal),
             },
-            Program::Second => by_number(second::find(table, order)),
-            Program::OldStart => by_number(old_start::find(table, order)),
+            Program::Second => by_number(self, second::find(table, order)),
+            Program::OldStart => by_number(self, old_start::find(table, order)),
             Program::Earlier(earlier) => earlier.find(table, order),
         }
     }
@@ -196,18 +196,18 @@ impl Question for FindCase {
     }
 }
 
-/// The second program's reply.
-fn by_number(reply: Reply) -> Answer {
+/// The second program's reply to a question.
+fn by_number(question: &impl Question, reply: Reply) -> Answer {
     match reply {
         Reply::Passed => [100, 0, 0],
         Reply::Late(place) => [101, place, 0],
         Reply::Found(tried) => [102, tried, 0],
         Reply::NoOrder { unplaced, tried } => [8, unplaced, tried],
-        refusal => refused(refusal),
+        refusal => refused(question, refusal),
     }
 }
 
-/// Every table of the benchmark can be answered.
-fn refused(refusal: impl Debug) -> Answer {
-    panic!("a table of the benchmark was refused: {refusal:?}")
+/// Every question of the benchmark can be answered.
+fn refused(question: &impl Question, refusal: impl Debug) -> Answer {
+    panic!("a question of the benchmark was refused: {refusal:?}\n{question}")
 }
