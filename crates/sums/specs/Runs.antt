@@ -5,7 +5,7 @@ use Prim.Native.Nat.{ℕ, zero, suc, _+_, _≤_, _<_, max, zero-le}
 use native.Mathlib.Nat.{le-refl}
 use native.Mathlib.Decide.{decLt}
 use native.Mathlib.Omega.{arith}
-use mathlib.Core.Path.{_≡_, refl, ap, ap₂, subst, _∙_}
+use mathlib.Core.Path.{_≡_, refl, ap, ap₂, _∙_}
 use mathlib.Core.Bool.{Bool, true, false, cond, _||_, or-true}
 use lib.Dec.{T as Is, leb, ltb, leb→le, le→leb, ltb→lt, lt→ltb}
 use borrow.Author.Tests.{le-leb, lt-leb, le-ltb}
@@ -13,8 +13,6 @@ use Rattle.sums.specs.Masks.{Mask, run, outside}
 use Rattle.sums.specs.MaskLaws.{is-true, and-left, and-right, and-intro}
 use Rattle.sums.specs.Sums.{over, sumOver, maxOver}
 use Rattle.sums.specs.Laws.{over-same, over-empty, over-next, over-beyond}
-use Rattle.sums.specs.Least.{DemandIs}
-use Rattle.sums.specs.declared.Demand.{Demand}
 
 module _ (s e p : ℕ) where
   pub run-here : s ≤ p → p < e → Is (run s e p)
@@ -68,40 +66,17 @@ max-runs s e n f se en =
     go k l (no a) (yes b) = rw (run-true s n k (omega arith) l, run-true s e k (omega arith) b)
     go k l (no a) (no b) = rw (run-true s n k (omega arith) l, run-true e n k (omega arith) l, or-true (run s e k))
 
--- sums on top of any number
-module _ (base : ℕ) (f : ℕ → ℕ) where
-  -- over a run: nothing before it, and place by place in it
-  module _ (s e : ℕ) where
-    pub sum-start : base + sumOver s (run s e) f ≡ base
-    sum-start = omega (arith, run-none _+_ 0 refl s e f)
+-- a sum over the rows around a run: those before it, and those behind it
+module _ (f : ℕ → ℕ) (n s e : ℕ) (se : s ≤ e) (en : e ≤ n) where
+  apart : (k : ℕ) → k < n → cond (outside s e k) (f k) 0 ≡ cond (run 0 s k) (f k) 0 + cond (run e n k) (f k) 0
+  apart k l = go (decLt k s) (decLt k e)
+    where
+      go : Dec (k < s) → Dec (k < e) → cond (outside s e k) (f k) 0 ≡ cond (run 0 s k) (f k) 0 + cond (run e n k) (f k) 0
+      go (yes a) d = rw (lt-leb s k a, run-true 0 s k zero-le a, lt-leb e k (omega arith)) (omega arith)
+      go (no a) (yes b) = rw (run-true s e k (omega arith) b, le-leb 0 k zero-le, le-ltb k s (omega arith), lt-leb e k b) (omega arith)
+      go (no a) (no b) = rw (le-ltb k e (omega arith), le-leb s k (omega arith), le-leb 0 k zero-le, le-ltb k s (omega arith), run-true e n k (omega arith) l) (omega arith)
 
-    pub sum-turn : (p : ℕ) {x y : ℕ} → s ≤ p → p < e → x ≡ base + sumOver p (run s e) f → y ≡ x + f p → y ≡ base + sumOver (p + 1) (run s e) f
-    sum-turn p l h i j = omega (arith, run-next _+_ 0 refl s e f p l h)
-
-  -- over the rows around a run
-  module _ (n s e : ℕ) (se : s ≤ e) (en : e ≤ n) where
-    apart : (k : ℕ) → k < n → cond (outside s e k) (f k) 0 ≡ cond (run 0 s k) (f k) 0 + cond (run e n k) (f k) 0
-    apart k l = go (decLt k s) (decLt k e)
-      where
-        go : Dec (k < s) → Dec (k < e) → cond (outside s e k) (f k) 0 ≡ cond (run 0 s k) (f k) 0 + cond (run e n k) (f k) 0
-        go (yes a) d = rw (lt-leb s k a, run-true 0 s k zero-le a, lt-leb e k (omega arith)) (omega arith)
-        go (no a) (yes b) = rw (run-true s e k (omega arith) b, le-leb 0 k zero-le, le-ltb k s (omega arith), lt-leb e k b) (omega arith)
-        go (no a) (no b) = rw (le-ltb k e (omega arith), le-leb s k (omega arith), le-leb 0 k zero-le, le-ltb k s (omega arith), run-true e n k (omega arith) l) (omega arith)
-
-    -- on top of the rows before it, those behind it
-    sum-around : base + sumOver s (run 0 s) f + sumOver n (run e n) f ≡ base + sumOver n (outside s e) f
-    sum-around =
-        omega (
-          arith,
-          over-parts _+_ 0 refl (λ a b c d. omega arith) n (outside s e) (run 0 s) (run e n) f apart,
-          run-beyond _+_ 0 refl 0 s f (λ a b c. omega arith) n (omega arith),
-        )
-
-    module _ (cap : ℕ) where
-      -- past a cap already with the rows before it
-      pub past-before : cap < base + sumOver s (run 0 s) f → cap < base + sumOver n (outside s e) f
-      past-before h = omega (arith, sum-around)
-
-      -- as far as a cap, from what the rows before it have
-      pub capped-around : (d : Demand) {x : ℕ} → x ≡ base + sumOver s (run 0 s) f → DemandIs (x + sumOver n (run e n) f) cap d → DemandIs (base + sumOver n (outside s e) f) cap d
-      capped-around d h = subst (λ (y : ℕ). DemandIs y cap d) (ap (λ (x : ℕ). x + sumOver n (run e n) f) h ∙ sum-around)
+  pub sum-around : sumOver n (outside s e) f ≡ sumOver s (run 0 s) f + sumOver n (run e n) f
+  sum-around =
+      over-parts _+_ 0 refl (λ a b c d. omega arith) n (outside s e) (run 0 s) (run e n) f apart
+      ∙ ap (λ (x : ℕ). x + sumOver n (run e n) f) (run-beyond _+_ 0 refl 0 s f (λ a b c. omega arith) n (omega arith))

@@ -8,7 +8,7 @@ use Rattle.sums.specs.Masks.{run}
 use Rattle.sums.specs.Sums.{demand}
 use Rattle.sums.specs.ColumnLaws.{columns-part}
 use Rattle.sums.specs.Climb.{demand-is, demand-past}
-use Rattle.sums.specs.Runs.{past-before, capped-around}
+use Rattle.sums.proofs.Adding.{before-past, behind-added}
 use Rattle.sums.proofs.demand_around.Statement.{statement}
 use Rattle.sums.proofs.demand_around.Tie as tie
 
@@ -16,7 +16,7 @@ returns : tie.Need-returns
 unfolding demand
 returns c =
     let p = c .before .before .before .before .before .before .pre in
-    past-before _ _ _ _ _ (p .1) (p .2) _ (demand-past _ _ (c .before .before .demand-within .ensures) (c .enum-told .given .1))
+    before-past _ _ _ _ _ _ (p .1) (p .2) (demand-past _ _ (c .before .before .demand-within .ensures) (c .enum-told .given .1))
 
 -- what the rows before the run ask, and that it is within the cap
 part : (c : tie.After-known-told) → let a = c .before .before .before .before .before .before .before .args in
@@ -30,7 +30,7 @@ returns-2 : tie.Need-returns-2
 unfolding demand
 returns-2 c =
     let p = c .before .before .before .before .before .before .before .before .pre in
-    capped-around _ _ _ _ _ (p .1) (p .2) _ (c .demand-within2 .result) (part (c .before) .0) (c .demand-within2 .ensures)
+    behind-added _ _ _ _ _ _ (p .1) (p .2) (c .demand-within2 .result) (part (c .before) .0) (c .demand-within2 .ensures)
 
 pub demand-around-spec : {M : Type 1} → statement M
 demand-around-spec =

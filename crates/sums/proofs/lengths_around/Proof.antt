@@ -7,14 +7,14 @@ use Rattle.sums.specs.Columns.{at}
 use Rattle.sums.specs.Masks.{run}
 use Rattle.sums.specs.Sums.{sumOver}
 use Rattle.sums.specs.Climb.{demand-is, demand-past}
-use Rattle.sums.specs.Runs.{past-before, capped-around}
+use Rattle.sums.proofs.Adding.{before-past, behind-added}
 use Rattle.sums.proofs.lengths_around.Statement.{statement}
 use Rattle.sums.proofs.lengths_around.Tie as tie
 
 returns : tie.Need-returns
 returns c =
     let p = c .before .before .before .before .pre in
-    past-before _ _ _ _ _ (p .1) (p .2) _ (demand-past _ _ (c .before .before .lengths-within .ensures) (c .enum-told .given .1))
+    before-past _ _ _ _ _ _ (p .1) (p .2) (demand-past _ _ (c .before .before .lengths-within .ensures) (c .enum-told .given .1))
 
 -- the lengths before the run, within the cap
 part : (c : tie.After-known-told) → let a = c .before .before .before .before .before .args in
@@ -27,7 +27,7 @@ lengths-within-requires-2 c κs = let p = c .before .before .before .before .bef
 returns-2 : tie.Need-returns-2
 returns-2 c =
     let p = c .before .before .before .before .before .before .pre in
-    capped-around _ _ _ _ _ (p .1) (p .2) _ (c .lengths-within2 .result) (part (c .before) .0) (c .lengths-within2 .ensures)
+    behind-added _ _ _ _ _ _ (p .1) (p .2) (c .lengths-within2 .result) (part (c .before) .0) (c .lengths-within2 .ensures)
 
 pub lengths-around-spec : {M : Type 1} → statement M
 lengths-around-spec =
