@@ -1,4 +1,3 @@
-pub mod Laying
 pub mod Turning
 pub mod Shifting
 pub mod Sorted

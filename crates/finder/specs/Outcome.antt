@@ -13,7 +13,7 @@ use lib.Dec.{eqb, lit≤}
 use Rattle.sums.specs.Sums.{count}
 use Rattle.licence.specs.Laws.{row-allowed}
 use Rattle.order.specs.Table.{Table}
-use Rattle.order.specs.Orders.{Order, Together, AllPass, Ranked}
+use Rattle.order.specs.Orders.{Order, Together, AllPass, HasOrder, Ranked}
 use Rattle.order.specs.Counting.{order-length}
 use Rattle.intake.specs.Words.{rows, tableOf}
 use Rattle.intake.specs.Answer.{Answer, Check, refused, fine}
@@ -61,7 +61,7 @@ FoundMeans = (words before after : List ℕ) (a : Answer) → Searched words bef
 -- Of a table that no check refuses, 'found' is said exactly where an order that keeps queues together passes.
 abbrev pub FoundExactly : Type 0
 FoundExactly = (words before after : List ℕ) (a : Answer) → Searched words before after a → tableRefusal words (length before) ≡ fine
-    → (a .number ≡ 102) ↔ ((o : List ℕ) × Order (tableOf words) o × Together (tableOf words) o × AllPass (tableOf words) o)
+    → (a .number ≡ 102) ↔ HasOrder (tableOf words)
 
 -- Of a table that no check refuses, 'no order' is said exactly where no order that keeps queues together passes.
 abbrev pub NoOrderExactly : Type 0

@@ -4,7 +4,7 @@
 ghost use mathlib.Core.Path.{_≡_};
 ghost use mathlib.Core.List.{_++_};
 ghost use Prim.Native.Nat.{_+_, _≤_, _<_};
-ghost use lib.ListN.{length, take, drop};
+ghost use lib.ListN.{length, take};
 ghost use Rattle.sums.specs.Columns.{at};
 ghost use Rattle.licence.specs.Limit.{limit};
 ghost use Rattle.order.specs.Sheet.{sheet, Room, Aligned};
@@ -93,18 +93,6 @@ fn turn(list: &mut [u32], s: usize, e: usize, top: usize)
     let mut i = s;
     while i < e {
         move_back(list, s, top);
-        i += 1;
-    }
-}
-
-// Writes the first n places of the order made to the lent list.
-fn lay(n: usize, made: &[u32], order: &mut [u32])
-    requires { ⌜ (n ≤ length (now made)) × (n ≤ length (now order)) ⌝ }
-    ensures { λ r. ⌜ now (order .exit) ≡ take n (now (made .entry)) ++ drop n (now (order .entry)) ⌝ }
-{
-    let mut i: usize = 0;
-    while i < n {
-        order[i] = made[i];
         i += 1;
     }
 }
@@ -218,7 +206,7 @@ fn find_order(
         }
         return Finding::Refused(intake::Refusal::NoOrder(bands, tried + bands));
     }
-    lay(n, &made, order);
+    order::lay(n, &made, order);
     Finding::Found(tried)
 }
 

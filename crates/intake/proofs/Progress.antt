@@ -1,22 +1,15 @@
 -- What reading the rows one by one keeps. Assumes nothing.
 use Prim.Native.Nat.{ℕ, _+_, _<_}
 use native.Mathlib.Omega.{arith}
-use mathlib.Core.Path.{_≡_, sym, subst}
+use mathlib.Core.Path.{_≡_}
 use mathlib.Core.List.{List}
 use lib.ListN.{length, set, length-set}
-use lib.Dec.{T as Is, eqb, eqb→eq, eqb-refl, T-not, not-T}
 use borrow.Author.Count.{below-more}
 use Rattle.sums.specs.ColumnLaws.{set-below}
 use Rattle.licence.specs.Row.{badField}
-use Rattle.intake.specs.Words.{badRow, tableOf}
+use Rattle.intake.specs.Words.{tableOf}
 use Rattle.order.specs.Sheet.{Room}
 use Rattle.intake.specs.Holds.{Holds}
-
-pub bad : (words : List ℕ) (i : ℕ) → (badField words i ≡ 0 → ⊥) → Is (badRow words i)
-bad words i h = not-T (eqb (badField words i) 0) (λ t. h (eqb→eq (badField words i) 0 t))
-
-pub not-bad : (words : List ℕ) (i : ℕ) → badField words i ≡ 0 → Is (badRow words i) → ⊥
-not-bad words i e t = T-not (eqb (badField words i) 0) t (subst (λ (x : ℕ). Is (eqb x 0)) (sym e) (eqb-refl 0))
 
 -- the columns are as long as they were
 pub record Kept (c₀ t₀ j₀ e₀ key₀ c t j e key : List ℕ) : Type 0 where

@@ -6,10 +6,10 @@ use mathlib.Core.Path.{_≡_, refl, sym, subst, _∙_}
 use mathlib.Core.Bool.{Bool, true, false, not, _||_}
 use mathlib.Core.List.{List}
 use lib.ListN.{length}
-use lib.Dec.{T as Is, eqb, ltb}
+use lib.Dec.{T as Is, eqb, eqb→eq, eqb-refl, ltb, T-not, not-T}
 use borrow.Author.Tests.{lt-ltb, le-ltb, ltb-false, eq-eqb, ne-eqb, eqb-true}
 use Rattle.sums.specs.Masks.{Place, at, nowhere, lowest}
-use Rattle.sums.specs.MaskLaws.{none-lowest}
+use Rattle.sums.specs.MaskLaws.{none-lowest, lowest-none}
 use Rattle.licence.specs.Limit.{limit}
 use Rattle.licence.specs.Row.{badField}
 use Rattle.intake.specs.Words.{ragged, rows, badRow, tableOf}
@@ -34,24 +34,39 @@ at-fine (at k) a e = absurd (let z : _≡_ {A = ℕ} 0 1 = cc in omega arith)
 at-fine nowhere a e = refl
 
 -- a reply that a check refuses, and one that is answered
-pub replied-refused : {check : Check} {list : List ℕ} {a : Answer} {Answered : Type 0} → check ≡ refused a → Replied check list list a Answered
+pub replied-refused : {Lent : Type 0} {check : Check} {lent : Lent} {a : Answer} {Answered : Type 0} → check ≡ refused a → Replied check lent lent a Answered
 replied-refused e = record { refusing = λ r q. (cc, refl); answering = λ q. absurd (let z : _≡_ {A = ℕ} 0 1 = cc in omega arith) }
 
-pub replied-answered : {check : Check} {before after : List ℕ} {a : Answer} {Answered : Type 0} → check ≡ fine → Answered → Replied check before after a Answered
+pub replied-answered : {Lent : Type 0} {check : Check} {before after : Lent} {a : Answer} {Answered : Type 0} → check ≡ fine → Answered → Replied check before after a Answered
 replied-answered e h = record { refusing = λ r q. absurd (let z : _≡_ {A = ℕ} 0 1 = cc in omega arith); answering = λ q. h }
 
--- what agrees with one answer and list agrees
-pub meet : {a a′ r : Answer} {after after′ list : List ℕ} → (a ≡ r) × (after ≡ list) → (a′ ≡ r) × (after′ ≡ list) → (a ≡ a′) × (after ≡ after′)
+-- what agrees with one answer and with what was lent agrees
+pub meet : {Lent : Type 0} {a a′ r : Answer} {after after′ lent : Lent} → (a ≡ r) × (after ≡ lent) → (a′ ≡ r) × (after′ ≡ lent) → (a ≡ a′) × (after ≡ after′)
 meet x y = (x .0 ∙ sym (y .0), x .1 ∙ sym (y .1))
 
 -- two replies: where they are answered, they are one if their answers are
-pub replied-one : {check : Check} {before after after′ : List ℕ} {a a′ : Answer} {Answered Answered′ : Type 0} → Replied check before after a Answered → Replied check before after′ a′ Answered′
+pub replied-one : {Lent : Type 0} {check : Check} {before after after′ : Lent} {a a′ : Answer} {Answered Answered′ : Type 0} → Replied check before after a Answered → Replied check before after′ a′ Answered′
     → (check ≡ fine → Answered → Answered′ → (a ≡ a′) × (after ≡ after′)) → (a ≡ a′) × (after ≡ after′)
-replied-one {check} {after = after} {after′} {a} {a′} x y one = go check refl
+replied-one {check = check} {after = after} {after′} {a} {a′} x y one = go check refl
   where
     go : (c : Check) → check ≡ c → (a ≡ a′) × (after ≡ after′)
     go (refused r) e = meet (x .refusing r e) (y .refusing r e)
     go fine e = one e (x .answering e) (y .answering e)
+
+-- a row is bad exactly where it has a bad field
+module _ (words : List ℕ) (i : ℕ) where
+  pub bad-row : (badField words i ≡ 0 → ⊥) → Is (badRow words i)
+  bad-row h = not-T (eqb (badField words i) 0) (λ t. h (eqb→eq (badField words i) 0 t))
+
+  pub good-row : badField words i ≡ 0 → Is (badRow words i) → ⊥
+  good-row e t = T-not (eqb (badField words i) 0) t (subst (λ (x : ℕ). Is (eqb x 0)) (sym e) (eqb-refl 0))
+
+  pub row-good : (Is (badRow words i) → ⊥) → badField words i ≡ 0
+  row-good h = go (eqb (badField words i) 0) refl
+    where
+      go : (b : Bool) → eqb (badField words i) 0 ≡ b → badField words i ≡ 0
+      go true q = eqb-true (badField words i) 0 q
+      go false q = absurd (h (rw q tt))
 
 module _ (words : List ℕ) where
   pub no-words : length words ≡ 0 → ragged words ≡ true
@@ -135,16 +150,15 @@ module _ (words : List ℕ) (room : ℕ) where
       record {
         whole = shape .whole;
         few = shape .few;
-        good = λ i l. good-row i (none-lowest (rows words) (badRow words) (at-fine _ _ (b .0)) i l);
+        good = λ i l. row-good words i (none-lowest (rows words) (badRow words) (at-fine _ _ (b .0)) i l);
         roomy = ltb-false room (rows words) (if-fine (ltb room (rows words)) _ (b .1));
       }
-    where
-      good-row : (i : ℕ) → (Is (badRow words i) → ⊥) → badField words i ≡ 0
-      good-row i h = go (eqb (badField words i) 0) refl
-        where
-          go : (b : Bool) → eqb (badField words i) 0 ≡ b → badField words i ≡ 0
-          go true q = eqb-true (badField words i) 0 q
-          go false q = absurd (h (rw q tt))
+
+  -- and the other way: words of n rows that can be read, with room
+  pub acceptable : {n : ℕ} → length words ≡ n * 6 → 0 < n → n ≤ limit → n ≤ room → ((i : ℕ) → i < n → badField words i ≡ 0) → tableRefusal words room ≡ fine
+  acceptable {n} long some few roomy good =
+      refuse-none (shape-none words (by-six words (omega arith) (omega arith)) (omega arith)) refl
+      (lowest-none (rows words) (badRow words) (λ i b. good-row words i (good i (omega arith)))) (omega arith)
 
 -- ---- what code asks of an answer
 

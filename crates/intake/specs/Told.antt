@@ -14,7 +14,7 @@ use Rattle.intake.specs.Words.{rows, badRow}
 use Rattle.intake.specs.Answer.{Answer, answer, refusalAnswer, Check, refused, fine, refuseIf, refuseAt, _then_, Replied}
 use Rattle.intake.specs.Refusals.{shapeRefusal, tableRefusal}
 use Rattle.intake.specs.declared.Refusal.{Refusal}
-use Rattle.intake.specs.declared.Refusal.the-variants.{Ragged, TooMany, BadRow, NoRoom, OrderLength, OrderEntry, SplitQueue, NoOrder, EmptyBook, BookLength, BookOffset}
+use Rattle.intake.specs.declared.Refusal.the-variants.{Ragged, TooMany, BadRow, NoRoom, OrderLength, OrderEntry, SplitQueue, NoOrder, Closed, OtherEdition, NoSuchRow, EmptyBook, BookLength, BookOffset, BadLedger}
 
 unfoldable pub toldRefusal : Answer → Refusal
 toldRefusal a =
@@ -26,8 +26,12 @@ toldRefusal a =
     (cond (eqb (a .number) 6) (OrderEntry (a .first))
     (cond (eqb (a .number) 7) (SplitQueue (a .first))
     (cond (eqb (a .number) 8) (NoOrder (a .first) (a .second))
+    (cond (eqb (a .number) 9) Closed
+    (cond (eqb (a .number) 10) OtherEdition
+    (cond (eqb (a .number) 11) NoSuchRow
     (cond (eqb (a .number) 20) EmptyBook
-    (cond (eqb (a .number) 21) BookLength (BookOffset (a .first)))))))))))
+    (cond (eqb (a .number) 21) BookLength
+    (cond (eqb (a .number) 22) (BookOffset (a .first)) BadLedger)))))))))))))
 
 pub told-refusal : (r : Refusal) → toldRefusal (refusalAnswer r) ≡ r
 unfolding toldRefusal
@@ -39,9 +43,13 @@ told-refusal OrderLength = refl
 told-refusal (OrderEntry p) = refl
 told-refusal (SplitQueue p) = refl
 told-refusal (NoOrder u t) = refl
+told-refusal Closed = refl
+told-refusal OtherEdition = refl
+told-refusal NoSuchRow = refl
 told-refusal EmptyBook = refl
 told-refusal BookLength = refl
 told-refusal (BookOffset i) = refl
+told-refusal BadLedger = refl
 
 -- so cases that can be told from their answers are one where these are
 pub told-one : {R : Type 0} (answers : R → Answer) (told : Answer → R) → ((r : R) → told (answers r) ≡ r) → {r r′ : R} → answers r ≡ answers r′ → r ≡ r′
@@ -57,9 +65,13 @@ refusal-small OrderLength = lit< tt
 refusal-small (OrderEntry p) = lit< tt
 refusal-small (SplitQueue p) = lit< tt
 refusal-small (NoOrder u t) = lit< tt
+refusal-small Closed = lit< tt
+refusal-small OtherEdition = lit< tt
+refusal-small NoSuchRow = lit< tt
 refusal-small EmptyBook = lit< tt
 refusal-small BookLength = lit< tt
 refusal-small (BookOffset i) = lit< tt
+refusal-small BadLedger = lit< tt
 
 pub not-refusal : (r : Refusal) (n : ℕ) → 100 ≤ n → eqb (refusalAnswer r .number) n ≡ false
 not-refusal r n l = ne-eqb (refusalAnswer r .number) n (λ e. omega (arith, refusal-small r))
@@ -108,8 +120,8 @@ pub wider-small : {most more : ℕ} {c : Check} → most ≤ more → Small most
 wider-small l = numbers-map (λ n h. (h .0, le-trans (h .1) l))
 
 -- what is replied with a number that no refusal has was not refused
-pub replied-fine : {P : ℕ → Type 0} {c : Check} {before after : List ℕ} {a : Answer} {Answered : Type 0} → Numbers P c → Replied c before after a Answered → (P (a .number) → ⊥) → c ≡ fine
-replied-fine {P} {c} {a = a} h x other = go c refl
+pub replied-fine : {P : ℕ → Type 0} {Lent : Type 0} {c : Check} {before after : Lent} {a : Answer} {Answered : Type 0} → Numbers P c → Replied c before after a Answered → (P (a .number) → ⊥) → c ≡ fine
+replied-fine {P} {c = c} {a = a} h x other = go c refl
   where
     go : (d : Check) → c ≡ d → c ≡ fine
     go (refused r) e = absurd (other (subst (λ (y : Answer). P (y .number)) (sym (x .refusing r e .0)) (number-has h e)))

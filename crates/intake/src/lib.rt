@@ -22,10 +22,14 @@ pub enum Refusal {
     SplitQueue(u32),
     // Unplaced bands, then bands tried.
     NoOrder(u32, u32),
+    Closed,
+    OtherEdition,
+    NoSuchRow,
     EmptyBook,
     BookLength,
     // The row.
     BookOffset(u32),
+    BadLedger,
 }
 
 // A reply's number, and the numbers that it carries, in order, 0 where there are fewer.
@@ -60,9 +64,13 @@ pub fn refusal_reply(r: Refusal) -> Reply
         Refusal::OrderEntry(place) => numbered(6, place, 0),
         Refusal::SplitQueue(place) => numbered(7, place, 0),
         Refusal::NoOrder(unplaced, tried) => numbered(8, unplaced, tried),
+        Refusal::Closed => numbered(9, 0, 0),
+        Refusal::OtherEdition => numbered(10, 0, 0),
+        Refusal::NoSuchRow => numbered(11, 0, 0),
         Refusal::EmptyBook => numbered(20, 0, 0),
         Refusal::BookLength => numbered(21, 0, 0),
         Refusal::BookOffset(row) => numbered(22, row, 0),
+        Refusal::BadLedger => numbered(23, 0, 0),
     }
 }
 

@@ -1,4 +1,5 @@
--- What follows from the definitions of Row: the bounds of a row that can be read, what a reading tells, and when two rows have one key.
+-- What follows from the definitions of Row: the bounds of a row that can be read, what a reading tells, when two rows are one word for word, and
+-- when they have one key.
 -- Assumes nothing.
 use Prim.Native.Nat.{ℕ, zero, suc, _+_, _≤_, _<_}
 use native.Mathlib.Omega.{arith}
@@ -78,6 +79,17 @@ read-good words i e = good-told _ _ _ e
 pub read-bad : (words : List ℕ) (i : ℕ) {f : ℕ} → readAt words i ≡ Bad f → (badField words i ≡ 0 → ⊥) × (f ≡ badField words i)
 unfolding readAt
 read-bad words i e = bad-told _ _ _ e
+
+-- ---- one row in two places: row i of some words is row j of others, word for word
+abbrev pub SameRow : (words : List ℕ) (i : ℕ) (others : List ℕ) (j : ℕ) → Type 0
+SameRow words i others j = (k : ℕ) → k < 6 → word words i k ≡ word others j k
+
+pub same-row : (words : List ℕ) (i : ℕ) (others : List ℕ) (j : ℕ) → SameRow words i others j → rowAt words i ≡ rowAt others j
+same-row words i others j h = cc (h 0 (lit< tt), h 1 (lit< tt), h 2 (lit< tt), h 3 (lit< tt), h 4 (lit< tt), h 5 (lit< tt))
+
+pub same-field : (words : List ℕ) (i : ℕ) (others : List ℕ) (j : ℕ) → SameRow words i others j → badField words i ≡ badField others j
+unfolding badField
+same-field words i others j h = cc (h 0 (lit< tt), h 1 (lit< tt), h 2 (lit< tt), h 3 (lit< tt), h 4 (lit< tt), h 5 (lit< tt))
 
 -- ---- a key
 pub key-priority : (i : ℕ) → bandKey (queueOf 0) i ≡ 65 + i

@@ -13,3 +13,6 @@ pub mod Marks
 pub mod Along
 pub mod Arranged
 pub mod Columns
+pub mod Lighter
+pub mod Renumbered
+pub mod Without

@@ -70,3 +70,7 @@ module _ (τ : Table) where
   -- every band passes
   abbrev pub AllPass : List ℕ → Type 0
   AllPass o = (p : ℕ) → p < length o → PassesAt o p
+
+  -- some order that keeps queues together passes
+  abbrev pub HasOrder : Type 0
+  HasOrder = (o : List ℕ) × Order o × Together o × AllPass o

@@ -1,7 +1,9 @@
 // The verdict on one band. The rows stand one behind the other, in columns of C, T, J and time allowed along an order, and the band is a run of
 // places.
 ghost use mathlib.Core.Path.{_≡_};
-ghost use Prim.Native.Nat.{_<_, max, min};
+ghost use mathlib.Core.List.{_++_};
+ghost use Prim.Native.Nat.{_≤_, _<_, max, min};
+ghost use lib.ListN.{length, take, drop};
 ghost use Rattle.sums.specs.Columns.{at};
 ghost use Rattle.sums.specs.Masks.{run};
 ghost use Rattle.order.specs.Sheet.{Lengths, AlongIn, Along, AlignedIn, Aligned, NumbersAre, RunIn, RunVerdict, Stretch, LongestIs};
@@ -29,6 +31,18 @@ pub fn index(x: u32) -> usize
     ensures { λ r. ⌜ r ≡ x ⌝ }
 {
     x as usize
+}
+
+// Writes the first n places of one list to another.
+pub fn lay(n: usize, from: &[u32], to: &mut [u32])
+    requires { ⌜ (n ≤ length (now from)) × (n ≤ length (now to)) ⌝ }
+    ensures { λ r. ⌜ now (to .exit) ≡ take n (now (from .entry)) ++ drop n (now (to .entry)) ⌝ }
+{
+    let mut i: usize = 0;
+    while i < n {
+        to[i] = from[i];
+        i += 1;
+    }
 }
 
 // Writes a column along an order.

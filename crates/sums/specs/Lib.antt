@@ -10,3 +10,4 @@ pub mod Climb
 pub mod Start
 pub mod Columns
 pub mod ColumnLaws
+pub mod Embed

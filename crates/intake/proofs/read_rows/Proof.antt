@@ -10,8 +10,9 @@ use Rattle.licence.specs.Laws.{Allowed, row-allowed, read-good, read-bad}
 use Rattle.licence.specs.declared.Row.{Row}
 use Rattle.intake.specs.Words.{badRow}
 use Rattle.intake.specs.Answer.{answer}
+use Rattle.intake.specs.Laws.{bad-row, good-row}
 use Rattle.order.specs.Sheet.{Room}
-use Rattle.intake.proofs.Progress.{bad, not-bad, Kept, kept-next, Progress, progress-none, progress-next}
+use Rattle.intake.proofs.Progress.{Kept, kept-next, Progress, progress-none, progress-next}
 use Rattle.intake.proofs.read_rows.Statement.{statement}
 use Rattle.intake.proofs.read_rows.Tie as tie
 
@@ -35,7 +36,7 @@ returns c =
     let i = c .before .before .before .before .before .loop .i in
     let p = c .before .before .before .before .before .loop .inv .2 in
     let r = read-bad words i (sym (c .before .before .before .read-row .ensures) ∙ c .before .enum-told .given .1) in
-    (i, lowest-at _ (badRow words) i (omega arith) (bad words i (r .0)) (λ k l. not-bad words k (p .good k l)), ap (answer 3 i) (c .field-of .ensures ∙ (ap fieldOf (c .before .enum-told .given .1) ∙ r .1)))
+    (i, lowest-at _ (badRow words) i (omega arith) (bad-row words i (r .0)) (λ k l. good-row words k (p .good k l)), ap (answer 3 i) (c .field-of .ensures ∙ (ap fieldOf (c .before .enum-told .given .1) ∙ r .1)))
 
 -- a row that can be read is the table's row i, with numbers as document 01 allows them
 row-is : (c : tie.After-known-told Inv-loop μ-loop) → let words = c .before .before .before .before .before .before .before .before .before .before .before .before .args .table .now in let i = c .before .before .before .before .before .loop .i in
@@ -80,7 +81,7 @@ returns-2 c =
     let n = c .before .before .before .before .before .before .before .before .args .n in
     let e : c .before .loop .i ≡ n = omega arith in
     let p = rw e at (c .before .loop .inv .2) in
-    (refl, lowest-none n (badRow _) (λ k l. not-bad _ k (p .good k l)), p .holds)
+    (refl, lowest-none n (badRow _) (λ k l. good-row _ k (p .good k l)), p .holds)
 
 pub read-rows-spec : {M : Type 1} → statement M
 unfolding limit

@@ -1,4 +1,4 @@
--- `finder::lay` meets its contract: after i places the list has the first i of the order made, and then what it had. Assumes nothing.
+-- `order::lay` meets its contract: after i places the list has the first i of the other, and then what it had. Assumes nothing.
 use borrow.Author.Needs.{needs}
 use native.Mathlib.Omega.{arith}
 use Prim.Native.Nat.{ℕ, _≤_, _-_}
@@ -6,28 +6,28 @@ use mathlib.Core.Path.{_≡_, refl, ap, _∙_}
 use mathlib.Core.List.{List, _++_}
 use lib.ListN.{length, set, take, drop}
 use Rattle.sums.specs.Columns.{at}
-use Rattle.finder.proofs.Laying.{laid-next, laid-length}
-use Rattle.finder.proofs.lay.Statement.{statement}
-use Rattle.finder.proofs.lay.Tie as tie
+use Rattle.order.proofs.Laying.{laid-next, laid-length}
+use Rattle.order.proofs.lay.Statement.{statement}
+use Rattle.order.proofs.lay.Tie as tie
 
 abbrev Inv-loop : tie.InvT-loop
-Inv-loop n made order₀ i₀ order i = (i ≤ n) × (order ≡ take i made ++ drop i order₀)
+Inv-loop n from to₀ i₀ to i = (i ≤ n) × (to ≡ take i from ++ drop i to₀)
 
 abbrev μ-loop : tie.MeasureT-loop
-μ-loop n made order₀ i₀ order i = n - i
+μ-loop n from to₀ i₀ to i = n - i
 
 -- the list keeps its length
-same-length : (c : tie.At-loop Inv-loop μ-loop) → length (c .loop .order) ≡ length (c .before .args .order .now)
+same-length : (c : tie.At-loop Inv-loop μ-loop) → length (c .loop .to) ≡ length (c .before .args .to .now)
 same-length c =
     let i = c .loop .inv in
     let p = c .before .pre in
-    ap length (i .1) ∙ laid-length (c .before .args .order .now) (c .before .args .made .now) (c .loop .i) (omega (arith, i .0, p .1)) (omega (arith, i .0, p .0))
+    ap length (i .1) ∙ laid-length (c .before .args .to .now) (c .before .args .from .now) (c .loop .i) (omega (arith, i .0, p .1)) (omega (arith, i .0, p .0))
 
 loop-again : tie.Need-loop-again Inv-loop μ-loop
 loop-again c =
     let l = c .before .before .loop in
     let s = c .before .before .before in
-    (omega arith, ap (λ (x : List ℕ). set x (l .i) (at (s .args .made .now) (l .i))) (l .inv .1) ∙ laid-next (s .args .order .now) (s .args .made .now) (l .i) (omega (arith, s .pre .1)) (omega (arith, s .pre .0)))
+    (omega arith, ap (λ (x : List ℕ). set x (l .i) (at (s .args .from .now) (l .i))) (l .inv .1) ∙ laid-next (s .args .to .now) (s .args .from .now) (l .i) (omega (arith, s .pre .1)) (omega (arith, s .pre .0)))
 
 pub lay-spec : {M : Type 1} → statement M
 lay-spec =
