@@ -7,3 +7,5 @@ pub mod Idlers
 pub mod Shown
 pub mod Priority
 pub mod Program
+pub mod Desk
+pub mod LastRoom

@@ -4,6 +4,8 @@ ghost use Rattle.intake.specs.Answer.{said};
 ghost use Rattle.book.specs.Replies.{readingAnswer, writingAnswer, BookRead, BookWritten};
 ghost use Rattle.judge.specs.Judged.{judgementAnswer, Judged};
 ghost use Rattle.finder.specs.Searched.{findingAnswer, Searched};
+ghost use Rattle.desk.specs.Ledger.{fresh};
+ghost use Rattle.desk.specs.Replies.{decisionAnswer, Claimed, Withdrawn};
 
 fn judgement_reply(j: judge::Judgement) -> intake::Reply
     ensures { λ r. ⌜ said r ≡ judgementAnswer j ⌝ }
@@ -42,6 +44,16 @@ fn writing_reply(w: book::Writing) -> intake::Reply
     }
 }
 
+fn decision_reply(d: desk::Decision) -> intake::Reply
+    ensures { λ r. ⌜ said r ≡ decisionAnswer d ⌝ }
+{
+    match d {
+        desk::Decision::Granted(edition) => intake::numbered(105, edition, 0),
+        desk::Decision::Withdrawn(edition) => intake::numbered(106, edition, 0),
+        desk::Decision::Refused(refusal) => intake::refusal_reply(refusal),
+    }
+}
+
 // Judges an order: see include/telhavina.h.
 #[no_mangle]
 pub extern "C" fn telhavina_judge(
@@ -76,4 +88,36 @@ pub extern "C" fn telhavina_book_write(words: &[u32], book: &mut [u8]) -> intake
     ensures { λ r. ⌜ BookWritten (now (words .entry)) (now (book .entry)) (now (book .exit)) (said r) ⌝ }
 {
     writing_reply(book::write(words, book))
+}
+
+// A fresh ledger: see include/telhavina.h.
+#[no_mangle]
+pub extern "C" fn telhavina_ledger_fresh() -> desk::Ledger
+    ensures { λ r. ⌜ r ≡ fresh ⌝ }
+{
+    desk::fresh()
+}
+
+// A claim at the desk: see include/telhavina.h.
+#[no_mangle]
+pub extern "C" fn telhavina_claim(
+    ledger: &mut desk::Ledger,
+    row: &[u32],
+    seen: u32,
+) -> intake::Reply
+    ensures { λ r. ⌜ Claimed (now (ledger .entry)) (now (row .entry)) seen (now (ledger .exit)) (said r) ⌝ }
+{
+    decision_reply(desk::claim(ledger, row, seen))
+}
+
+// A withdrawal at the desk: see include/telhavina.h.
+#[no_mangle]
+pub extern "C" fn telhavina_withdraw(
+    ledger: &mut desk::Ledger,
+    row: u32,
+    seen: u32,
+) -> intake::Reply
+    ensures { λ r. ⌜ Withdrawn (now (ledger .entry)) row seen (now (ledger .exit)) (said r) ⌝ }
+{
+    decision_reply(desk::withdraw(ledger, row, seen))
 }

@@ -1,0 +1,10 @@
+pub mod Ledger
+pub mod Replies
+pub mod Laws
+pub mod Rows
+pub mod Turns
+pub mod Leaving
+pub mod Outcome
+pub mod History
+pub mod Flat
+pub mod Kept
