@@ -70,6 +70,22 @@ impl Answer {
         matches!(self.verdict, Verdict::Passed | Verdict::Found { .. })
     }
 
+    /// The bands that cannot be placed and those that were tried, where there is no order.
+    pub(crate) fn no_order(&self) -> Option<(usize, usize)> {
+        match self.verdict {
+            Verdict::NoOrder { unplaced, tried } => Some((unplaced, tried)),
+            _ => None,
+        }
+    }
+
+    /// How many bands were tried, where an order was looked for.
+    pub(crate) fn tried(&self) -> usize {
+        match self.verdict {
+            Verdict::Found { tried } | Verdict::NoOrder { tried, .. } => tried,
+            Verdict::Passed | Verdict::Late { .. } => 0,
+        }
+    }
+
     /// How many messages are late.
     pub fn late(&self) -> usize {
         self.judged.iter().filter(|judged| judged.figure.is_none()).count()

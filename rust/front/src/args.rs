@@ -4,11 +4,13 @@ use std::ffi::OsString;
 use std::path::PathBuf;
 
 use crate::alike::{but_for_a_slip, but_for_case, did_you_mean};
+use crate::desk::args::{self as desk_args, Valued, BITRATE, EDITION};
+use crate::desk::Task;
 use crate::load::Source;
 use crate::shown::Quoted;
 
 /// The names of the commands.
-const COMMANDS: [&str; 5] = ["judge", "find", "pack", "unpack", "help"];
+const COMMANDS: [&str; 6] = ["judge", "find", "pack", "unpack", "desk", "help"];
 
 /// What is asked for.
 #[derive(Debug, Clone, PartialEq, Eq)]
@@ -36,6 +38,13 @@ pub enum Command {
     Unpack {
         /// The file.
         file: Source,
+    },
+    /// Go to the desk.
+    Desk {
+        /// The file of the ledger.
+        ledger: PathBuf,
+        /// What to do with it.
+        task: Task,
     },
 }
 
@@ -83,6 +92,7 @@ struct Words {
     json: bool,
     help: bool,
     unknown: Option<String>,
+    valued: Vec<Valued>,
     plain: Vec<Plain>,
 }
 
@@ -118,11 +128,15 @@ impl Words {
 fn sort(args: Vec<OsString>) -> Words {
     let mut words = Words::default();
     let mut options = true;
-    for arg in args {
+    let mut args = args.into_iter().peekable();
+    let is_value = |arg: &OsString| !arg.to_string_lossy().starts_with('-');
+    while let Some(arg) = args.next() {
         match arg.to_str() {
             Some("--") if options => options = false,
             Some("--json") if options => words.json = true,
             Some("--help" | "-h") if options => words.help = true,
+            Some(EDITION) if options => words.valued.push((EDITION, args.next_if(is_value))),
+            Some(BITRATE) if options => words.valued.push((BITRATE, args.next_if(is_value))),
             Some("-") if options => words.plain.push(Plain::Dash),
             Some(option) if options && option.starts_with('-') => {
                 words.unknown.get_or_insert(option.to_string());
@@ -141,8 +155,9 @@ fn command(words: Words) -> Result<Command, String> {
     if let Some(kind) = made_by(&name).filter(|_| words.json) {
         return Err(format!("{name} takes no --json: its answer is {kind}"));
     }
-    if let Some(option) = words.unknown {
-        let hint = "an ORDER or a file that starts with - comes after --";
+    let desks = words.valued.first().filter(|_| name != "desk").map(|(option, _)| option);
+    if let Some(option) = words.unknown.or(desks.map(ToString::to_string)) {
+        let hint = "an ORDER, a name or a file that starts with - comes after --";
         return Err(format!("there is no option {} ({hint})", Quoted(&option)));
     }
     let has_name = !words.plain.is_empty();
@@ -152,8 +167,9 @@ fn command(words: Words) -> Result<Command, String> {
         "find" => find(after),
         "pack" => pack(after),
         "unpack" => unpack(after),
+        "desk" => desk(after, &words.valued),
         other if has_name => Err(unknown(other)),
-        _ => Err("a command is missing: judge, find, pack, unpack or --help".to_string()),
+        _ => Err("a command is missing: judge, find, pack, unpack, desk or --help".to_string()),
     }
 }
 
@@ -200,6 +216,15 @@ fn unpack(mut after: impl Iterator<Item = Plain>) -> Result<Command, String> {
     let file = file(after.next().or(Some(Plain::Dash)), "unpack BOOK > TABLE.csv")?;
     no_more(after, "unpack")?;
     Ok(Command::Unpack { file })
+}
+
+fn desk(after: impl Iterator<Item = Plain>, options: &[Valued]) -> Result<Command, String> {
+    let mut after = after.peekable();
+    if let Some(Plain::Dash) = after.peek() {
+        return Err("a ledger is a file, and cannot come from standard input".to_string());
+    }
+    let (ledger, task) = desk_args::read(after.map(Plain::text).collect(), options)?;
+    Ok(Command::Desk { ledger, task })
 }
 
 fn file(arg: Option<Plain>, expected: &str) -> Result<Source, String> {

@@ -69,7 +69,11 @@ pub fn length(cell: &str) -> Result<Length, Fault> {
 pub fn time(cell: &str, rate: Option<Rate>, column: Column) -> Result<u32, Fault> {
     let expected = match rate {
         Some(_) => format!("expected milliseconds, as 2.5, with at most {DECIMALS} decimals"),
-        None => "expected whole bit times (milliseconds need a first line `# bitrate N`)".into(),
+        None => {
+            "expected whole bit times (milliseconds need a bit rate: a first line `# bitrate N` \
+                 or, for a ledger, `new --bitrate N`)"
+                .into()
+        }
     };
     let rounding = if column == Column::Jitter { Rounding::Up } else { Rounding::Down };
     let time = match rate {

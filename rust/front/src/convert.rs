@@ -1,5 +1,6 @@
 //! The two ways between a CSV and a book. Nothing is judged: what can be put into words is written.
 
+use crate::desk::file as ledger;
 use crate::fault::Fault;
 use crate::lines::is_wide;
 use crate::load::Source;
@@ -14,6 +15,9 @@ pub fn pack(file: &Source, streams: &mut Streams) -> Result<Vec<u8>, Fault> {
         ));
     }
     let bytes = file.load(streams.input)?;
+    if ledger::is_ledger(&bytes) {
+        return Err(ledger::instead_of("a table"));
+    }
     if book::is_book(&bytes) {
         return Err(Fault::new(
             "this looks like a book, not a table: judge and find take it as it is, and unpack says \
@@ -31,6 +35,9 @@ pub fn unpack(file: &Source, streams: &mut Streams) -> Result<Vec<u8>, Fault> {
         ));
     }
     let bytes = file.load(streams.input)?;
+    if ledger::is_ledger(&bytes) {
+        return Err(ledger::instead_of("a book"));
+    }
     // What is empty is neither a text nor a book; whoever unpacks it takes it for a book.
     if !bytes.is_empty() && !book::is_book(&bytes) {
         return Err(no_book(&bytes));

@@ -6,6 +6,10 @@ usage: telhavina judge TABLE.csv [ORDER] [--json]
        telhavina find TABLE.csv [--json]
        telhavina pack TABLE.csv > BOOK
        telhavina unpack [BOOK] > TABLE.csv
+       telhavina desk LEDGER new [--bitrate N] [--json]
+       telhavina desk LEDGER claim NAME QUEUE LENGTH PERIOD DEADLINE JITTER --edition N [--json]
+       telhavina desk LEDGER withdraw NAME --edition N [--json]
+       telhavina desk LEDGER show [--json]
        telhavina --help
        In the place of a file, - is standard input; a file called - is ./- (or - after --).
 ";
@@ -19,6 +23,13 @@ usage
   telhavina find TABLE.csv [--json]            find an order of priority that passes
   telhavina pack TABLE.csv > BOOK              make a book of a table
   telhavina unpack [BOOK] > TABLE.csv          make a table of a book
+  telhavina desk LEDGER new [--bitrate N] [--json]
+                                               make a ledger that holds nothing
+  telhavina desk LEDGER claim NAME QUEUE LENGTH PERIOD DEADLINE JITTER --edition N [--json]
+                                               claim room for one more message
+  telhavina desk LEDGER withdraw NAME --edition N [--json]
+                                               withdraw a message that is held
+  telhavina desk LEDGER show [--json]          show what is held, and its figures
   telhavina --help                             show this text
   To judge and find, a book can stand in the place of TABLE.csv.
   In the place of a file, - is standard input; a file called - is ./- (or - after --).
@@ -70,6 +81,31 @@ the book
   control character, unless it looks like UTF-16 text: a book has two zero bytes after the row
   count, and a text has no NUL character.
 
+the desk
+  Room on one bus, granted to one message after another. LEDGER is the file, never standard input,
+  that holds what was granted, and an edition: it starts at 0 and grows by one with each change.
+  new       Makes the file, if there is none of this name. With a bit rate, times are milliseconds,
+            as in a table; without it, whole bit times. A ledger keeps the one it was made with.
+  claim     Grants the message if there is an order of all held messages and this one that passes,
+            and says 'no room' if there is none. The six cells are those of a line of a table, each
+            an argument of its own: those with a blank in them stand in quotes ('std 8', 'fifo 1').
+  withdraw  Frees the room of a message. NAME is its name, or the number of its row; the rows
+            behind it move up by one.
+  show      The edition, and the held messages in the order that find would give.
+  edition   Claim and withdraw need the edition that you saw. If the ledger has changed since, they
+            are refused (refusal 10), and you look again: of two who claim the last room, one is
+            granted it, and the other is told so. Every answer names the edition that the ledger
+            has now. Edition 4294967295 is the last; a ledger that has it is closed (refusal 9).
+  What is granted or withdrawn is on disk before it is said; a refusal alters nothing. A change is
+  made by one at a time: who comes second waits for the lock, LEDGER.lock, which stays beside the
+  ledger and is not to be removed. The ledger is replaced as a whole, by way of a file
+  LEDGER.(16 digits).tmp: if the program is stopped halfway, the old ledger is there or the new
+  one, and what is left over is removed at the next change. A name or a cell that starts with -
+  comes after --.
+  Its bytes: the lines 'telhavina ledger 1', 'edition N', 'bitrate N' (if there is one), 'messages
+  N' and a name a line, each with LF; then the book of the rows, if there are any; then the CRC-32
+  of all that, 4 bytes, high byte first. Anything else is refused as damaged.
+
 the answer
   A table, highest priority first, then the verdict.
   figure    The time from queuing within which the message is wholly sent; 'late' where none can
@@ -90,6 +126,15 @@ the JSON object
   refused     number, message, file, line, column: a refusal of the library, by its number
   unreadable  message, file, line, column: a file or an ORDER that cannot be read
   usage       message: a command line that cannot be followed
+  At the desk, they are usage as above, and
+  made        file, edition, bitrate
+  granted     file, edition, name, row
+  withdrawn   file, edition, name, row
+  shown       file, edition, bitrate, order, tried, messages
+  no order    number, message, file, edition, bitrate, unplaced, tried: there is no room
+  refused     number, message, file, edition, column: a refusal of the library, by its number
+  unreadable  message, file, edition, line, column: a claim that cannot be read, or whose name is
+              held already; without edition, a ledger that cannot be read
   Each of messages, highest priority first, has name, row, line, queue, late, figure, allowed, slack
   and, with a bit rate, figure_ms, allowed_ms, slack_ms. A late one has null for figure and slack.
   Without a bit rate, bitrate is null. Where there is no line or no column to name, the key is
@@ -98,13 +143,16 @@ the JSON object
   line, and standard error says so.
 
 exit status
-  0  passed, or found; packed, or unpacked
-  1  late, or no order
-  2  refused, or not readable; a wrong command line; an answer that cannot be written (to judge and
-     find, a reader that leaves early is none): the reason is on standard error or, with --json, in
-     the object, if that can be written
+  0  passed, or found; packed, or unpacked; at the desk: made, granted, withdrawn, or shown
+  1  late, or no order; at the desk: no room, which is no order too (refusal 8)
+  2  refused, or not readable; a wrong command line; an answer that cannot be written (to judge,
+     find and desk, a reader that leaves early is none): the reason is on standard error or, with
+     --json, in the object, if that can be written. At the desk, an answer that cannot be written
+     may stand for a change that was made: show tells
 
 examples
+  telhavina desk deck.ledger new --bitrate 250000
+  telhavina desk deck.ledger claim Rudder priority 'ext 8' 10 10 0.5 --edition 0
   telhavina pack examples/table_a.csv > table_a.book
   telhavina find table_a.book
   telhavina judge examples/table_a.csv C,F,A,B

@@ -40,7 +40,7 @@ pub fn answer(file: &str, table: &Table, answer: &Answer) -> String {
 }
 
 /// The order that was judged, as it can be given as ORDER.
-fn order(table: &Table, answer: &Answer) -> String {
+pub(crate) fn order(table: &Table, answer: &Answer) -> String {
     Names::of(table).write(answer.judged.iter().map(|judged| judged.row))
 }
 
@@ -68,7 +68,7 @@ fn first(table: &Table, answer: &Answer, place: usize) -> String {
 }
 
 /// One message, with times in milliseconds too if there is a bit rate.
-fn message(table: &Table, judged: &Judged) -> String {
+pub(crate) fn message(table: &Table, judged: &Judged) -> String {
     let message = table.message(judged.row);
     let object = Object::new()
         .text("name", table.name(judged.row))
@@ -89,27 +89,27 @@ fn message(table: &Table, judged: &Judged) -> String {
 }
 
 /// An object, as far as it is written.
-struct Object(String);
+pub(crate) struct Object(String);
 
 impl Object {
-    fn new() -> Object {
+    pub(crate) fn new() -> Object {
         Object(String::new())
     }
 
     /// With this value, which is written as JSON already, or as a number is.
-    fn put(mut self, key: &str, value: impl fmt::Display) -> Object {
+    pub(crate) fn put(mut self, key: &str, value: impl fmt::Display) -> Object {
         let comma = if self.0.is_empty() { "" } else { "," };
         // To write to a string does not fail.
         let _ = write!(self.0, "{comma}{}:{value}", Quoted(key));
         self
     }
 
-    fn text(self, key: &str, value: &str) -> Object {
+    pub(crate) fn text(self, key: &str, value: &str) -> Object {
         self.put(key, Quoted(value))
     }
 
     /// With this value, or with null.
-    fn or_null(self, key: &str, value: Option<impl fmt::Display>) -> Object {
+    pub(crate) fn or_null(self, key: &str, value: Option<impl fmt::Display>) -> Object {
         match value {
             Some(value) => self.put(key, value),
             None => self.put(key, "null"),
@@ -117,7 +117,7 @@ impl Object {
     }
 
     /// With this value if there is one.
-    fn known(self, key: &str, value: Option<impl fmt::Display>) -> Object {
+    pub(crate) fn known(self, key: &str, value: Option<impl fmt::Display>) -> Object {
         match value {
             Some(value) => self.put(key, value),
             None => self,
@@ -128,13 +128,13 @@ impl Object {
         format!("{{{}}}", self.0)
     }
 
-    fn line(self) -> String {
+    pub(crate) fn line(self) -> String {
         format!("{{{}}}\n", self.0)
     }
 }
 
 /// Values that are written already.
-struct Array(Vec<String>);
+pub(crate) struct Array(pub(crate) Vec<String>);
 
 impl fmt::Display for Array {
     fn fmt(&self, f: &mut fmt::Formatter) -> fmt::Result {

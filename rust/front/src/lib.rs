@@ -1,10 +1,12 @@
 //! The command line of the library: a licensing officer keeps the table of licences in a file, and
 //! asks whether an order of it passes, or for an order that does; and turns a table into a book for
-//! others, or a book from others into a table.
+//! others, or a book from others into a table. At the desk, the officer keeps a ledger in which room
+//! is granted to one message after another.
 //!
 //! Here a file is read, put into the words of document 01, handed to [`telhavina`], and the reply is
 //! shown. All that is decided about a table is decided there, by the proved library; only what
-//! cannot be put into words of 32 bits is turned down here, or a word that cannot be put into a CSV.
+//! cannot be put into words of 32 bits is turned down here, or a word that cannot be put into a CSV,
+//! or a ledger that is not whole.
 
 mod alike;
 pub mod answer;
@@ -15,6 +17,7 @@ mod cells;
 mod columns;
 pub mod convert;
 pub mod csv;
+pub mod desk;
 pub mod fault;
 mod help;
 pub mod json;
@@ -40,10 +43,10 @@ use report::Report;
 use shown::Shown;
 use table::Table;
 
-/// The exit status of an order that passes, judged or found, and of a file that was turned into
-/// another.
+/// The exit status of an order that passes, judged or found, of a file that was turned into another,
+/// and of what was done at the desk.
 pub const GOOD: u8 = 0;
-/// The exit status of an answer that is no: late, or no order.
+/// The exit status of an answer that is no: late, or no order, as where the desk has no room.
 pub const NOT_GOOD: u8 = 1;
 /// The exit status where there is no answer: refused, not readable, not asked for in the right way,
 /// or not to be written.
@@ -103,6 +106,7 @@ pub fn run(args: Vec<OsString>, streams: &mut Streams) -> Said {
         Command::Find { file } => reply(&file, streams, json, answer::find),
         Command::Pack { file } => converted(&file, convert::pack(&file, streams)),
         Command::Unpack { file } => converted(&file, convert::unpack(&file, streams)),
+        Command::Desk { ledger, task } => desk::said(&ledger, &task, json),
     }
 }
 

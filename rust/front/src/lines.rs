@@ -43,6 +43,14 @@ pub fn trimmed(text: &str) -> &str {
     text.trim_matches(' ')
 }
 
+/// Whether a text that is no line of a file could stand on one, as far as its characters go.
+pub fn refuse_strange(text: &str) -> Result<(), Fault> {
+    match text.chars().find_map(strange) {
+        None => Ok(()),
+        Some(what) => Err(Fault::new(format!("{what} is not allowed: {PLAIN}"))),
+    }
+}
+
 /// The lines of these bytes, each of them or what is wrong with it.
 pub fn lines(bytes: &[u8]) -> impl Iterator<Item = Result<Line<'_>, Fault>> {
     let ends = if bytes.contains(&b'\n') { Ends::Lf } else { Ends::None };

@@ -54,11 +54,26 @@ impl<'a> Names<'a> {
         let row = match self.meaning(written) {
             Meaning::Row(row) => row,
             Meaning::Either(named, numbered) => {
-                return Err(self.ambiguous(place, written, named, numbered))
+                let why = self.ambiguous(named, numbered);
+                let entry = Quoted(written);
+                return Err(Fault::new(format!("ORDER entry {entry} (place {place}) {why}")));
             }
             Meaning::Nothing => return Err(self.unknown(place, written)),
         };
         Ok(Entry { written: written.to_string(), row })
+    }
+
+    /// The row that this text stands for where it is no order, but one message: none if it is
+    /// neither a name nor a number.
+    pub(crate) fn one(&self, written: &str) -> Result<Option<u32>, Fault> {
+        match self.meaning(written) {
+            Meaning::Row(row) => Ok(Some(row)),
+            Meaning::Nothing => Ok(None),
+            Meaning::Either(named, numbered) => {
+                let why = self.ambiguous(named, numbered);
+                Err(Fault::new(format!("{} {why}", Quoted(written))))
+            }
+        }
     }
 
     fn meaning(&self, entry: &str) -> Meaning {
@@ -74,15 +89,14 @@ impl<'a> Names<'a> {
         }
     }
 
-    fn ambiguous(&self, place: usize, entry: &str, named: u32, numbered: u32) -> Fault {
+    fn ambiguous(&self, named: u32, numbered: u32) -> String {
         let (by_name, by_number) = (self.written(named), self.written(numbered));
-        Fault::new(format!(
-            "ORDER entry {} (place {place}) is ambiguous: it is the name of row {named} and the \
-             number of row {numbered}; write {} for the first or {} for the second",
-            Quoted(entry),
+        format!(
+            "is ambiguous: it is the name of row {named} and the number of row {numbered}; write \
+             {} for the first or {} for the second",
             Quoted(&by_name),
             Quoted(&by_number)
-        ))
+        )
     }
 
     fn unknown(&self, place: usize, entry: &str) -> Fault {
@@ -92,12 +106,17 @@ impl<'a> Names<'a> {
                  too many?"
             ));
         }
-        let alike = but_for_case(entry, self.rows.keys().copied());
-        let hint = alike.map_or_else(|| self.known(), did_you_mean);
         Fault::new(format!(
-            "ORDER entry {} (place {place}) is neither a name nor a row number of the file; {hint}",
-            Quoted(entry)
+            "ORDER entry {} (place {place}) is neither a name nor a row number of the file; {}",
+            Quoted(entry),
+            self.hint(entry)
         ))
+    }
+
+    /// What could have been written in the place of this.
+    pub(crate) fn hint(&self, written: &str) -> String {
+        let alike = but_for_case(written, self.rows.keys().copied());
+        alike.map_or_else(|| self.known(), did_you_mean)
     }
 
     /// The names there are, in the order of the file.

@@ -44,21 +44,9 @@ fn too_many(table: &Table) -> Fault {
 }
 
 fn bad_row(message: &Message, row: usize, field: usize, rate: Option<Rate>) -> Fault {
-    let column = match field {
-        1 => Column::Queue,
-        2 | 3 => Column::Length,
-        4 => Column::Period,
-        5 => Column::Deadline,
-        _ => Column::Jitter,
-    };
+    let column = column_of(field);
     let (name, value) = (Quoted(&message.name), Quoted(message.written(column)));
-    let expected = match column {
-        Column::Name | Column::Queue => "FIFO numbers are 1 to 64".to_string(),
-        Column::Length => allowed_length(message.length).to_string(),
-        Column::Period => came_to(message.period, rate, &allowed_period(rate)),
-        Column::Deadline => came_to(message.deadline, rate, &allowed_deadline(message)),
-        Column::Jitter => came_to(message.jitter, rate, &allowed_jitter(message)),
-    };
+    let expected = expected(message, column, rate);
     match message.line {
         Some(line) => {
             Fault::new(format!("{value} is not allowed for {name} (row {row}): {expected}"))
@@ -66,6 +54,36 @@ fn bad_row(message: &Message, row: usize, field: usize, rate: Option<Rate>) -> F
                 .in_column(column)
         }
         None => Fault::new(format!("{value} is not allowed: {expected}")).in_row(row, column),
+    }
+}
+
+/// This field of a message that stands in no file yet is not allowed.
+pub(crate) fn bad_field(message: &Message, field: usize, rate: Option<Rate>) -> Fault {
+    let column = column_of(field);
+    let value = Quoted(message.written(column));
+    let expected = expected(message, column, rate);
+    Fault::new(format!("{value} is not allowed: {expected}")).in_column(column)
+}
+
+/// The column that tells this field of a row.
+fn column_of(field: usize) -> Column {
+    match field {
+        1 => Column::Queue,
+        2 | 3 => Column::Length,
+        4 => Column::Period,
+        5 => Column::Deadline,
+        _ => Column::Jitter,
+    }
+}
+
+/// What is allowed in this column of the message.
+fn expected(message: &Message, column: Column, rate: Option<Rate>) -> String {
+    match column {
+        Column::Name | Column::Queue => "FIFO numbers are 1 to 64".to_string(),
+        Column::Length => allowed_length(message.length).to_string(),
+        Column::Period => came_to(message.period, rate, &allowed_period(rate)),
+        Column::Deadline => came_to(message.deadline, rate, &allowed_deadline(message)),
+        Column::Jitter => came_to(message.jitter, rate, &allowed_jitter(message)),
     }
 }
 

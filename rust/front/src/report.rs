@@ -32,11 +32,8 @@ pub struct Report<'a> {
 impl fmt::Display for Report<'_> {
     fn fmt(&self, f: &mut fmt::Formatter) -> fmt::Result {
         let messages = count(self.table.messages.len(), "message");
-        let name = self.file.name();
-        match self.table.rate {
-            Some(rate) => writeln!(f, "{}: {messages}, {rate}", Shown(&name))?,
-            None => writeln!(f, "{}: {messages}, times in bit times", Shown(&name))?,
-        }
+        let times = times(self.table.rate);
+        writeln!(f, "{}: {messages}, {times}", Shown(&self.file.name()))?;
         if !self.answer.judged.is_empty() {
             self.table(f)?;
         }
@@ -45,7 +42,8 @@ impl fmt::Display for Report<'_> {
 }
 
 impl Report<'_> {
-    fn table(&self, f: &mut fmt::Formatter) -> fmt::Result {
+    /// A line for each message, highest priority first.
+    pub(crate) fn table(&self, f: &mut fmt::Formatter) -> fmt::Result {
         let head = IN_BIT_TIMES.iter().chain(self.table.rate.iter().flat_map(|_| &IN_MILLIS));
         let head: Vec<String> = head.map(ToString::to_string).collect();
         let rows = self.answer.judged.iter().map(|judged| self.cells(judged));
@@ -105,6 +103,11 @@ impl Report<'_> {
             Shown(&argument)
         )
     }
+}
+
+/// What times are in: the bit rate says it, where there is one.
+pub(crate) fn times(rate: Option<Rate>) -> String {
+    or(rate, "times in bit times")
 }
 
 fn in_millis(judged: &Judged, rate: Rate) -> [String; 3] {

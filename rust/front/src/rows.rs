@@ -118,11 +118,16 @@ fn header(text: &str) -> Result<(), Fault> {
 }
 
 fn message(line: Line, rate: Option<Rate>) -> Result<Message, Fault> {
-    let cells = of_message(line.text)?;
+    let message = of_cells(of_message(line.text)?, rate)?;
+    Ok(Message { line: Some(line.number), ..message })
+}
+
+/// The message that these cells tell, wherever they stand.
+pub(crate) fn of_cells(cells: [&str; 6], rate: Option<Rate>) -> Result<Message, Fault> {
     let [name_cell, queue_cell, length_cell, period, deadline, jitter] = cells;
     Ok(Message {
         name: name(name_cell)?,
-        line: Some(line.number),
+        line: None,
         queue: queue(queue_cell)?,
         length: length(length_cell)?,
         period: time(period, rate, Column::Period)?,
@@ -132,7 +137,8 @@ fn message(line: Line, rate: Option<Rate>) -> Result<Message, Fault> {
     })
 }
 
-fn name(cell: &str) -> Result<String, Fault> {
+/// The name that this cell tells.
+pub(crate) fn name(cell: &str) -> Result<String, Fault> {
     let wrong = match cell {
         "" => "the cell is empty: expected a name",
         _ if cell.starts_with('#') => {

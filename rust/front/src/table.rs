@@ -4,6 +4,7 @@ use std::fmt;
 
 use crate::book;
 pub use crate::cells::{Length, Queue};
+use crate::desk::file;
 use crate::fault::{Column, Fault};
 use crate::rate::Rate;
 pub use crate::rows::read;
@@ -43,6 +44,9 @@ pub struct Table {
 
 /// The table of a file with these bytes, be it a book or a CSV.
 pub fn of_file(bytes: &[u8]) -> Result<Table, Fault> {
+    if file::is_ledger(bytes) {
+        return Err(file::instead_of("a table"));
+    }
     match book::is_book(bytes) {
         true => book::read(bytes),
         false => read(bytes),
@@ -52,8 +56,13 @@ pub fn of_file(bytes: &[u8]) -> Result<Table, Fault> {
 impl Message {
     /// The message of this row where its words are all there is: its name tells the row.
     pub(crate) fn of_words(row: usize, words: [u32; 6]) -> Message {
+        Message::called(&format!("row{row}"), words)
+    }
+
+    /// The message of these words where it has a name besides them.
+    pub(crate) fn called(name: &str, words: [u32; 6]) -> Message {
         let [queue, form, size, period, deadline, jitter] = words;
-        let (name, queue, length) = (format!("row{row}"), Queue::of(queue), Length::of(form, size));
+        let (name, queue, length) = (name.to_string(), Queue::of(queue), Length::of(form, size));
         let written = [
             name.clone(),
             queue.to_string(),

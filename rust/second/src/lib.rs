@@ -1,10 +1,11 @@
-//! The second program: it judges priority orders and finds them, and reads and writes books; it is
-//! written from document 01 and requests L1 to L3 alone.
+//! The second program: it judges priority orders and finds them, reads and writes books, and keeps
+//! a claim desk; it is written from document 01 and requests L1 to L4 alone.
 //!
 //! It is there to be compared with the proved library, in what it answers and in how long it
 //! takes, so it shares nothing with it: no code, no contract, not even a table of limits.
 
 mod book;
+pub mod desk;
 mod find;
 pub mod old_start;
 mod order;
@@ -32,9 +33,13 @@ pub enum Reply {
     BookRead(u32),
     /// The book was written; carries how many bytes it has.
     BookWritten(u32),
-    /// 1: no words, or not a multiple of six.
+    /// The row was granted; carries the ledger's new edition.
+    Granted(u32),
+    /// The row was taken out; carries the ledger's new edition.
+    Withdrawn(u32),
+    /// 1: no words, or not a multiple of six; for a claim, any number of words but six.
     Ragged,
-    /// 2: more than 64 rows, or a book that says so.
+    /// 2: more than 64 rows, or a book that says so; for a claim, a ledger that holds 64 already.
     TooMany,
     /// 3: the lowest bad row, and its lowest bad field.
     BadRow {
@@ -58,23 +63,33 @@ pub enum Reply {
         /// How many bands were tried, at all places together.
         tried: u32,
     },
+    /// 9: the ledger has the greatest edition, so it can't be changed any more.
+    Closed,
+    /// 10: the ledger has another edition than its sender saw.
+    OtherEdition,
+    /// 11: the ledger holds no row of this number.
+    NoSuchRow,
     /// 20: a book of under two bytes, or with a count of 0.
     EmptyBook,
     /// 21: a book whose length is not that of its count.
     BookLength,
     /// 22: the first row that does not start where the book says.
     BookOffset(u32),
+    /// 23: a lent ledger that says it holds more than 64 rows, or holds a bad row.
+    BadLedger,
 }
 
 impl Reply {
     /// Its number in the desk's list; an answer has 100 and more.
-    fn number(self) -> u32 {
+    pub fn number(self) -> u32 {
         match self {
             Reply::Passed => 100,
             Reply::Late(_) => 101,
             Reply::Found(_) => 102,
             Reply::BookRead(_) => 103,
             Reply::BookWritten(_) => 104,
+            Reply::Granted(_) => 105,
+            Reply::Withdrawn(_) => 106,
             Reply::Ragged => 1,
             Reply::TooMany => 2,
             Reply::BadRow { .. } => 3,
@@ -83,9 +98,13 @@ impl Reply {
             Reply::OrderEntry(_) => 6,
             Reply::SplitQueue(_) => 7,
             Reply::NoOrder { .. } => 8,
+            Reply::Closed => 9,
+            Reply::OtherEdition => 10,
+            Reply::NoSuchRow => 11,
             Reply::EmptyBook => 20,
             Reply::BookLength => 21,
             Reply::BookOffset(_) => 22,
+            Reply::BadLedger => 23,
         }
     }
 }

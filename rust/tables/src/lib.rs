@@ -1,6 +1,7 @@
 //! A seeded maker of inputs for judging and for finding, and for reading and writing books: tables,
 //! orders and books that are good, and ones that are damaged so that each refusal of document 01
-//! and of request L1 comes up. It knows the limits of the fields; it judges nothing.
+//! and of request L1 comes up; and of histories for a claim desk, in which each reply of request L4
+//! comes up. It knows the limits of the fields; it judges nothing.
 
 mod book_damage;
 mod books;
@@ -9,6 +10,8 @@ mod extremes;
 mod fields;
 mod find_speed;
 mod finding;
+mod histories;
+mod ledgers;
 mod orders;
 mod plans;
 mod prng;
@@ -21,6 +24,8 @@ pub use books::{any_rows, book_of, lent_bytes, read_case, write_case, ReadCase, 
 pub use fields::{boundary_rows, Row};
 pub use find_speed::find_families;
 pub use finding::{find_case, FindCase};
+pub use histories::{history, Call, History, Named, Seen};
+pub use ledgers::Start;
 pub use orders::{bands, every_order};
 pub use prng::Prng;
 pub use speed::{families, Family};

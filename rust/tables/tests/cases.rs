@@ -2,7 +2,7 @@
 
 use std::collections::BTreeSet;
 
-use tables::{book_of, case, every_order, find_case, read_case, write_case};
+use tables::{book_of, case, every_order, find_case, history, read_case, write_case};
 
 // A seed that a failed comparison prints makes the same case again.
 #[test]
@@ -11,6 +11,7 @@ fn same_seed_same_case() {
     assert!((0..1_000).all(|seed| find_case(seed) == find_case(seed)));
     assert!((0..1_000).all(|seed| read_case(seed) == read_case(seed)));
     assert!((0..1_000).all(|seed| write_case(seed) == write_case(seed)));
+    assert!((0..1_000).all(|seed| history(seed) == history(seed)));
 }
 
 // A figure is at most 1,000,000: a lent word that was left alone can be told from one written.

@@ -1,6 +1,8 @@
 //! The C boundary: the crate's one module with `unsafe`, because the library is called as C.
 #![allow(unsafe_code)]
 
+use crate::Ledger;
+
 /// The library's reply: its number, then what it carries, 0 where there is less.
 #[repr(C)]
 pub(crate) struct Reply {
@@ -36,6 +38,11 @@ unsafe extern "C" {
         book: *mut u8,
         book_len: usize,
     ) -> Reply;
+    fn telhavina_claim(ledger: *mut Ledger, row: *const u32, row_len: usize, edition: u32)
+        -> Reply;
+    fn telhavina_withdraw(ledger: *mut Ledger, row_number: u32, edition: u32) -> Reply;
+    // Safe: it is lent nothing, and any words are a `Ledger`.
+    safe fn telhavina_ledger_fresh() -> Ledger;
 }
 
 /// The library's reply on this table and order; `figures` is lent to it for the call.
@@ -74,15 +81,37 @@ pub(crate) fn book_write(words: &[u32], book: &mut [u8]) -> Reply {
     unsafe { telhavina_book_write(words.as_ptr(), words.len(), book.as_mut_ptr(), book.len()) }
 }
 
+/// The library's reply on a claim of this row; `ledger` is lent to it for the call.
+pub(crate) fn claim(ledger: &mut Ledger, row: &[u32], edition: u32) -> Reply {
+    // SAFETY: the row is lent as for judging. The ledger lies in memory as the C header says,
+    // aligned, readable and writable, and is not shared with the row; any words in it are a ledger
+    // or refused. The library writes to no other place, and keeps no pointer after it returns.
+    unsafe { telhavina_claim(ledger, row.as_ptr(), row.len(), edition) }
+}
+
+/// The library's reply on the withdrawal of this row; `ledger` is lent to it for the call.
+pub(crate) fn withdraw(ledger: &mut Ledger, row: u32, edition: u32) -> Reply {
+    // SAFETY: the ledger is lent as for claiming.
+    unsafe { telhavina_withdraw(ledger, row, edition) }
+}
+
+/// The library's fresh ledger.
+pub(crate) fn ledger_fresh() -> Ledger {
+    telhavina_ledger_fresh()
+}
+
 #[cfg(test)]
 mod tests {
-    use super::{book_read, book_write, find, judge, Reply};
+    use tables::{Call, History};
+
+    use super::{book_read, book_write, claim, find, judge, withdraw, Reply};
+    use crate::Ledger;
 
     /// How many numbers the reply with this number carries.
     fn carried(number: u32) -> u32 {
         match number {
             3 | 8 => 2,
-            6 | 7 | 22 | 101..=104 => 1,
+            6 | 7 | 22 | 101..=106 => 1,
             _ => 0,
         }
     }
@@ -90,6 +119,23 @@ mod tests {
     fn rest_is_0(reply: Reply) -> bool {
         let carried = carried(reply.number);
         (carried >= 1 || reply.first == 0) && (carried == 2 || reply.second == 0)
+    }
+
+    /// The replies to the calls of this history.
+    fn replies(history: &History) -> Vec<Reply> {
+        let start = &history.start;
+        let (words, held, edition) = (start.words, start.held, start.edition);
+        let mut ledger = Ledger { words, held, edition };
+        let put = |call: &Call| {
+            let Ledger { held, edition, .. } = ledger;
+            match call {
+                Call::Claim { row, seen } => claim(&mut ledger, row, seen.edition(edition)),
+                Call::Withdrawal { row, seen } => {
+                    withdraw(&mut ledger, row.row(held), seen.edition(edition))
+                }
+            }
+        };
+        history.calls.iter().map(put).collect()
     }
 
     // The C interface: a place of the reply that carries nothing is 0.
@@ -110,6 +156,9 @@ mod tests {
         for mut case in (0..20_000).map(tables::write_case) {
             let reply = book_write(&case.words, &mut case.book);
             assert!(rest_is_0(reply), "{case}");
+        }
+        for history in (0..2_000).map(tables::history) {
+            assert!(replies(&history).into_iter().all(rest_is_0), "{history}");
         }
     }
 }

@@ -1,12 +1,13 @@
 //! Judges the priority order of a table of CAN messages, and finds one; reads and writes books of
-//! licences.
+//! licences; keeps the ledger of a desk where room on a bus is claimed.
 //!
 //! Given which messages a bus has to carry and in which order of priority, [`judge`] says for
 //! each message a time from being queued within which it is wholly sent, the least that the
-//! published equations allow, or that they allow none within its deadline. Given the messages alone, [`find`] gives an
-//! order that passes this judgement, or says that there is none. Both are done by a proved
-//! library, linked in statically; this crate adds safe types and nothing else. All times are whole
-//! bit times.
+//! published equations allow, or that they allow none within its deadline. Given the messages
+//! alone, [`find`] gives an order that passes this judgement, or says that there is none. [`claim`]
+//! grants one message more where such an order is left, and [`withdraw`] takes one back. All of it
+//! is done by a proved library, linked in statically; this crate adds safe types and nothing else.
+//! All times are whole bit times.
 //!
 //! # The table
 //!
@@ -77,15 +78,47 @@
 //! assert_eq!(read_book(&book[..29], &mut words), Reading::Refused(Refusal::BookLength));
 //! ```
 //!
+//! # The desk
+//!
+//! A [`Ledger`] holds the rows that were granted on one bus, and its edition: how often it has
+//! changed. [`claim`] adds a row if there is an order of all rows that passes, and [`withdraw`]
+//! takes one out. Both are sent with the edition that the claimant saw, so that of two who saw the
+//! same one, only the first is served. A refusal leaves the ledger as it was.
+//!
+//! ```
+//! use telhavina::{claim, withdraw, Claim, Ledger, Refusal, Withdrawal};
+//!
+//! // A frame of 100 is sent within 200 if there is no other row, within 300 below one like it, and
+//! // within 400 below two: where 350 are allowed, there is room for two.
+//! let row = [0, 0, 100, 1000, 350, 0];
+//! let mut ledger = Ledger::fresh();
+//! assert_eq!(claim(&mut ledger, &row, 0), Claim::Granted { edition: 1 });
+//! assert_eq!(claim(&mut ledger, &row, 1), Claim::Granted { edition: 2 });
+//! assert_eq!(ledger.rows(), [row, row].concat());
+//!
+//! // Who saw edition 1 has to look again, and then there is no room left.
+//! let late = claim(&mut ledger, &row, 1);
+//! assert_eq!(late, Claim::Refused(Refusal::OtherEdition));
+//! let no_room = Refusal::NoOrder { unplaced: 3, tried: 3 };
+//! assert_eq!(claim(&mut ledger, &row, 2), Claim::Refused(no_room));
+//!
+//! assert_eq!(withdraw(&mut ledger, 0, 2), Withdrawal::Withdrawn { edition: 3 });
+//! assert_eq!(claim(&mut ledger, &row, 3), Claim::Granted { edition: 4 });
+//! ```
+//!
 //! # Building
 //!
 //! The build links `libtelhavina.a`, made by `rt staticlib telhavina` at the project's root and
 //! looked for in `target/staticlib` there, or in the directory whose absolute path is in the
 //! environment variable `TELHAVINA_LIB_DIR`.
 
+mod desk;
 mod ffi;
+mod ledger;
 mod refusal;
 
+pub use desk::{claim, withdraw, Claim, Withdrawal};
+pub use ledger::Ledger;
 pub use refusal::Refusal;
 
 const PASSED: u32 = 100;

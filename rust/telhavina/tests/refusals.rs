@@ -1,6 +1,7 @@
 //! 'Checks run in the order 1 to 7' of document 01: of two refusals that are both due, the lower
 //! is given, with the first offending place, and no lent word is altered. Checks 1 to 4 are the
-//! same for judging and for finding.
+//! same for judging and for finding. Then all refusals in words, those of books and of the desk
+//! too; in which order they are given stands with the cases of each.
 
 use telhavina::{find, judge, Finding, Judgement, Refusal};
 
@@ -144,6 +145,10 @@ fn in_words() {
         offset.to_string(),
         "Refusal 22: the book says that row 7 starts where it does not."
     );
+    assert_eq!(
+        Refusal::OtherEdition.to_string(),
+        "Refusal 10: the ledger has another edition than the one that was sent."
+    );
     let all = [
         Refusal::Ragged,
         Refusal::TooMany,
@@ -153,11 +158,15 @@ fn in_words() {
         Refusal::OrderEntry { place: 0 },
         split,
         no_order,
+        Refusal::Closed,
+        Refusal::OtherEdition,
+        Refusal::NoSuchRow,
         Refusal::EmptyBook,
         Refusal::BookLength,
         offset,
+        Refusal::BadLedger,
     ];
-    for (refusal, number) in all.iter().zip((1..=8).chain(20..)) {
+    for (refusal, number) in all.iter().zip((1..=11).chain(20..)) {
         assert_eq!(refusal.number(), number);
         let words = refusal.to_string();
         assert!(words.starts_with(&format!("Refusal {number}: ")) && words.ends_with('.'));

@@ -1,8 +1,8 @@
-//! 'Slips we have seen' of document 01: for three of them a table, an order and a legal run in
+//! 'Slips we have seen' of document 01: for four of them a table, an order and a legal run in
 //! which a frame takes longer than the slip would have it, though the slip passes the table.
 
 use bus::{Bus, Frame};
-use telhavina::{judge, Judgement};
+use telhavina::{claim, judge, Claim, Judgement, Ledger, Refusal};
 
 /// Which slip is made in the sums.
 #[derive(Clone, Copy, PartialEq, Eq)]
@@ -12,6 +12,8 @@ enum Slip {
     BAlone,
     /// 'Using a FIFO row's own C where MAX, SUM and MIN belong.'
     OwnC,
+    /// 'Judging a claim alone and adding up the yeses.'
+    Alone,
 }
 
 /// The figure of this row, for which there is a w.
@@ -19,8 +21,11 @@ fn figure(bus: &Bus, row: usize, slip: Slip) -> u32 {
     let c = |&row: &usize| bus.rows[row].c;
     let longest = |rows: &[usize]| rows.iter().map(c).max().unwrap_or(0);
     let own = if slip == Slip::OwnC { vec![row] } else { bus.band(row) };
-    let above = bus.above(row);
-    let b = longest(&bus.below(row));
+    let (above, below) = match slip {
+        Slip::Alone => (Vec::new(), Vec::new()),
+        _ => (bus.above(row), bus.below(row)),
+    };
+    let b = longest(&below);
     let behind = if slip == Slip::BAlone { b } else { b.max(longest(&own)) };
     let sum: u32 = own.iter().map(c).sum();
     let min = own.iter().map(c).min().unwrap_or(0);
@@ -167,4 +172,36 @@ fn own_c_of_a_fifo_row() {
     assert!(times[3] > slip[0] && times[3] > 80);
     assert_eq!(figures(&bus, Slip::None), [85, 85, 50, 115]);
     late(&table, &order, 1, &[0, 0, 50, 115]);
+}
+
+// 'Judging a claim alone and adding up the yeses', both rows get twice their length and pass. But
+// a frame of row 1 that comes just after one of row 0 takes 39, and is late; with row 0 above it
+// takes 40. At the desk row 0 passes at the lowest place with 30 + 10 + 30 = 70, and above it row 1
+// needs 30 + 10 = 40: the second claim is refused.
+#[test]
+fn each_claim_alone() {
+    let table = [
+        0, 0, 30, 100, 100, 0, // row 0
+        0, 0, 10, 100, 25, 0, // row 1
+    ];
+    for (order, run, time, late_place, expected) in [
+        ([1, 0], [(0, 0, 0, 30), (1, 1, 0, 10)], 39, 0, [70, 0]),
+        ([0, 1], [(0, 0, 0, 30), (1, 0, 0, 10)], 40, 1, [60, 0]),
+    ] {
+        let bus = Bus::new(&table, &order);
+        let slip = figures(&bus, Slip::Alone);
+        assert_eq!(slip, [60, 20]);
+        assert!(pass(&table, &bus, &slip, e));
+
+        let times = times(&bus, &run);
+        assert_eq!(times, [30, time]);
+        assert!(time > slip[1] && time > 25);
+        late(&table, &order, late_place, &expected);
+    }
+
+    let mut ledger = Ledger::fresh();
+    assert_eq!(claim(&mut ledger, &table[..6], 0), Claim::Granted { edition: 1 });
+    let none = Refusal::NoOrder { unplaced: 1, tried: 2 };
+    assert_eq!(claim(&mut ledger, &table[6..], 1), Claim::Refused(none));
+    assert_eq!(ledger.rows(), &table[..6]);
 }

@@ -1,7 +1,9 @@
-//! The real program, run on a file; a reader of its JSON; makers of files and books; a tally of answers.
+//! The real program, run on a file; a reader of its JSON; makers of files, books and ledgers; a tally
+//! of answers.
 #![allow(dead_code)]
 
 pub mod books;
+pub mod desk;
 pub mod json;
 pub mod made_up;
 pub mod tally;

@@ -34,6 +34,8 @@ pub fn kind(reply: Reply) -> &'static str {
         Reply::Found(_) => "found",
         Reply::BookRead(_) => "book read",
         Reply::BookWritten(_) => "book written",
+        Reply::Granted(_) => "granted",
+        Reply::Withdrawn(_) => "withdrawn",
         Reply::Ragged => "1 ragged",
         Reply::TooMany => "2 too many",
         Reply::BadRow { .. } => "3 bad row",
@@ -44,10 +46,14 @@ pub fn kind(reply: Reply) -> &'static str {
         // At the lowest place already, or at a higher one.
         Reply::NoOrder { unplaced, tried } if tried == unplaced => "8 no order, at once",
         Reply::NoOrder { .. } => "8 no order, later",
+        Reply::Closed => "9 closed",
+        Reply::OtherEdition => "10 other edition",
+        Reply::NoSuchRow => "11 no such row",
         Reply::EmptyBook => "20 empty book",
         Reply::BookLength => "21 book length",
         Reply::BookOffset(0) => "22 book offset, row 0",
         Reply::BookOffset(_) => "22 book offset, later",
+        Reply::BadLedger => "23 bad ledger",
     }
 }
 
@@ -64,9 +70,13 @@ pub fn refused(refusal: Refusal) -> Reply {
         Refusal::NoOrder { unplaced, tried } => {
             Reply::NoOrder { unplaced: number(unplaced), tried: number(tried) }
         }
+        Refusal::Closed => Reply::Closed,
+        Refusal::OtherEdition => Reply::OtherEdition,
+        Refusal::NoSuchRow => Reply::NoSuchRow,
         Refusal::EmptyBook => Reply::EmptyBook,
         Refusal::BookLength => Reply::BookLength,
         Refusal::BookOffset { row } => Reply::BookOffset(number(row)),
+        Refusal::BadLedger => Reply::BadLedger,
     }
 }
 
