@@ -14,18 +14,18 @@ use Rattle.finder.specs.Placing.{Ending, found, none}
 use Rattle.finder.specs.Searched.{findingAnswer, Searched, Told as FinderTold, Answered as FinderAnswered}
 use Rattle.finder.specs.declared.Finding.{Finding}
 use Rattle.finder.specs.declared.Finding.the-variants.{Found, Refused}
-use Rattle.desk.specs.Ledger.{changed, withRow}
+use Rattle.desk.specs.Ledger.{Whole, changed, withRow}
 use Rattle.desk.specs.Laws.{Claimable}
 use Rattle.desk.specs.Rows.{with-length, claim-fine}
 use Rattle.desk.specs.Replies.{decisionAnswer, Told, Answered}
 use Rattle.desk.specs.declared.Ledger.{Ledger}
 use Rattle.desk.specs.declared.Decision.the-variants.{Granted}
 
-module _ (l : Ledger) (row : List ℕ) (seen : ℕ) (known : Claimable l row seen) (long : limit * 6 ≤ length (l .words)) (table before after : List ℕ) (roomy : limit ≤ length before)
+module _ (l : Ledger) (row : List ℕ) (seen : ℕ) (known : Claimable l row seen) (whole : Whole l) (table before after : List ℕ) (roomy : limit ≤ length before)
     (is : table ≡ withRow l row) where
   -- the finder refuses no such table, and answers
   answered : {a : Answer} → Searched table before after a → FinderAnswered (tableOf (withRow l row)) before after a
-  answered {a} s = subst (λ (t : List ℕ). Searched t before after a) is s .answering (claim-fine l row seen (length before) long roomy known)
+  answered {a} s = subst (λ (t : List ℕ). Searched t before after a) is s .answering (claim-fine l row seen (length before) whole roomy known)
 
   -- where an order is found, the claim is granted
   pub granted : {f : Finding} {tried : ℕ} → f ≡ Found tried → Searched table before after (findingAnswer f)

@@ -26,7 +26,7 @@ module _ (w : List ℕ) (at : ℕ) where
       ∙ ap (λ (r : List ℕ). take at w ++ r) (append-nil part ∙ e ∙ ap (λ (r : List ℕ). take m s ++ drop m r) lent-all ∙ ap (λ (r : List ℕ). take m s ++ r) (drop-drop m at w))
       ∙ sym (append-assoc (take at w) (take m s) (drop (at + m) w))
 
-pub drop-take : (a b : ℕ) (l : List ℕ) → slice a b l ≡ take (b - a) (drop a l)
+drop-take : (a b : ℕ) (l : List ℕ) → slice a b l ≡ take (b - a) (drop a l)
 drop-take zero b l = let z : b ≡ b - 0 = omega arith in ap (λ (k : ℕ). take k l) z
 drop-take (suc a) zero l = let z : 0 ≡ 0 - suc a = omega arith in ap (λ (k : ℕ). take k (drop (suc a) l)) z
 drop-take (suc a) (suc b) [] = sym (take-nil (suc b - suc a))

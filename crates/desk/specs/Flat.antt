@@ -22,7 +22,7 @@ sixes-drop zero rows h = h
 sixes-drop (suc k) [] h = tt
 sixes-drop (suc k) (row ∷ rows) h = sixes-drop k rows (h .1)
 
-pub flat-append : (xs ys : List (List ℕ)) → flat (xs ++ ys) ≡ flat xs ++ flat ys
+flat-append : (xs ys : List (List ℕ)) → flat (xs ++ ys) ≡ flat xs ++ flat ys
 unfolding flat
 flat-append [] ys = refl
 flat-append (x ∷ xs) ys = ap (λ (r : List ℕ). x ++ r) (flat-append xs ys) ∙ sym (append-assoc x (flat xs) (flat ys))

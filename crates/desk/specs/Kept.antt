@@ -20,7 +20,7 @@ use Rattle.desk.specs.Ledger.{Whole, fresh, heldWords, unfit, changed, w
 use Rattle.desk.specs.Replies.{Claimed}
 use Rattle.desk.specs.Laws.{fit}
 use Rattle.desk.specs.Rows.{held-length, held-row, held-good, with-length, with-good, out-length}
-use Rattle.desk.specs.Turns.{ClaimTurn, refused-claim, granted-claim, claim-turn, claim-not, WithdrawalTurn, refused-withdrawal, done-withdrawal, withdrawal-turn, withdrawal-not}
+use Rattle.desk.specs.Turns.{ClaimTurn, refused-claim, granted-claim, claim-turn, claim-small, WithdrawalTurn, refused-withdrawal, done-withdrawal, withdrawal-turn, withdrawal-small}
 use Rattle.desk.specs.Outcome.{claim-right}
 use Rattle.desk.specs.Leaving.{still-good, still-ordered}
 use Rattle.desk.specs.History.{Call, claiming, withdrawing, Serves, Entry, Calls, no-call, next-call, changes, changedBy, standing, changeCount, flat, Sixes}
@@ -100,7 +100,7 @@ module _ (past : List Entry) (l : Ledger) (s : Kept past l) where
       })
 
   kept-claim : (row : List ℕ) (seen : ℕ) (a : Answer) {after : Ledger} → ClaimTurn l row seen after a → Kept (record { call = claiming row seen; reply = a } ∷ past) after
-  kept-claim row seen a (refused-claim same n) = not-changed _ same (ne-eqb (a .number) 105 (λ e. omega (arith, claim-not n)))
+  kept-claim row seen a (refused-claim same n) = not-changed _ same (ne-eqb (a .number) 105 (λ e. omega (arith, claim-small n)))
   kept-claim row seen a (granted-claim {o} {t} e is c f) =
       let words : l .held * 6 ≤ length (l .words) = omega (arith, s .whole, c .room) in
       let right = claim-right l row seen (s .whole) c f in
@@ -109,7 +109,7 @@ module _ (past : List Entry) (l : Ledger) (s : Kept past l) where
       (omega (arith, s .count, length-append (standing past) (row ∷ []))) (with-good l row words (c .six) (c .held-fit) (c .good)) (λ h. (o, right .order, right .together, right .passing))
 
   kept-withdrawal : (k seen : ℕ) (a : Answer) {after : Ledger} → WithdrawalTurn l k seen after a → Kept (record { call = withdrawing k seen; reply = a } ∷ past) after
-  kept-withdrawal k seen a (refused-withdrawal same n) = not-changed _ same (ne-eqb (a .number) 106 (λ e. omega (arith, withdrawal-not n)))
+  kept-withdrawal k seen a (refused-withdrawal same n) = not-changed _ same (ne-eqb (a .number) 106 (λ e. omega (arith, withdrawal-small n)))
   kept-withdrawal k seen a (done-withdrawal e is w) =
       let words : l .held * 6 ≤ length (l .words) = omega (arith, s .whole, w .held-fit .few) in
       made _ (eq-eqb (a .number) 106 (ap (λ (y : Answer). y .number) e)) (withoutRow l k) (l .held - 1) is (out-length (heldWords l) (l .held) k (w .there) (held-length l words)) (omega (arith, w .held-fit .few))
@@ -146,7 +146,7 @@ edition-grows {start} (next-call {past} {before} {after} x rest served) = go (x 
 
 -- a claim that is granted is for the ledger's edition, which it raises
 granted-edition : {l : Ledger} {row : List ℕ} {seen : ℕ} {after : Ledger} {a : Answer} → a .number ≡ 105 → ClaimTurn l row seen after a → (seen ≡ l .edition) × (after .edition ≡ seen + 1)
-granted-edition n (refused-claim same z) = absurd (omega (arith, claim-not z))
+granted-edition n (refused-claim same z) = absurd (omega (arith, claim-small z))
 granted-edition n (granted-claim e is c f) = (c .edition-open .current, omega (arith, ap (λ (x : Ledger). x .edition) is, c .edition-open .current))
 
 pub one-grant : OneGrant

@@ -30,8 +30,6 @@ check-stopped {check} h e = subst (CheckIs check) e h
 pub check-passed : {check : Check} {told : Checked} → CheckIs check told → told ≡ Fine → check ≡ fine
 check-passed {check} h e = subst (CheckIs check) e h
 
--- ---- the rows held
-
 -- where it is false that two are not equal, they are
 unless-other : (a b : ℕ) → not (eqb a b) ≡ false → a ≡ b
 unless-other a b e = go (eqb a b) refl e
@@ -39,6 +37,8 @@ unless-other a b e = go (eqb a b) refl e
     go : (t : Bool) → eqb a b ≡ t → not t ≡ false → a ≡ b
     go true q e = eqb-true a b q
     go false q e = absurd (let z : _≡_ {A = ℕ} 0 1 = cc in omega arith)
+
+-- ---- the rows held
 
 module _ (words : List ℕ) (held : ℕ) where
   pub unfit-many : limit < held → unfit words held ≡ true

@@ -16,19 +16,19 @@ use Rattle.intake.specs.Words.{rows}
 use Rattle.intake.specs.Refusals.{tableRefusal}
 use Rattle.intake.specs.Answer.{fine}
 use Rattle.intake.specs.Laws.{acceptable}
-use Rattle.desk.specs.Ledger.{heldWords, withRow, rowOut}
+use Rattle.desk.specs.Ledger.{Whole, heldWords, withRow, rowOut}
 use Rattle.desk.specs.Laws.{Fit, Claimable}
 use Rattle.desk.specs.declared.Ledger.{Ledger}
 
 -- ---- the first words of a list, and then others
 
 module _ (h : ℕ) (w s : List ℕ) (long : h * 6 ≤ length w) where
-  pub front-row : (i : ℕ) → i < h → SameRow (take (h * 6) w ++ s) i w i
+  front-row : (i : ℕ) → i < h → SameRow (take (h * 6) w ++ s) i w i
   front-row i l k m =
       List·getD-append (take (h * 6) w) s 0 (i * 6 + k) (omega (arith, length-take-le (h * 6) w long)) ∙ getD-take (h * 6) w (i * 6 + k) 0 (omega arith)
 
   -- row j of the others
-  pub behind-row : (j : ℕ) → SameRow (take (h * 6) w ++ s) (h + j) s j
+  behind-row : (j : ℕ) → SameRow (take (h * 6) w ++ s) (h + j) s j
   behind-row j k m =
       let here : (h + j) * 6 + k ≡ length (take (h * 6) w) + (j * 6 + k) = omega (arith, length-take-le (h * 6) w long) in
       ap (λ (p : ℕ). getD (take (h * 6) w ++ s) p 0) here ∙ getD-append-add (take (h * 6) w) s (j * 6 + k) 0
@@ -67,8 +67,8 @@ module _ (l : Ledger) (row : List ℕ) (long : l .held * 6 ≤ length (l .words)
       go (inr q) = same-field (withRow l row) i (l .words) i (front-row (l .held) (l .words) row long i q) ∙ held-fit .good i q
 
 -- a claim that no check refuses is one for a table that no check of the finder refuses
-pub claim-fine : (l : Ledger) (row : List ℕ) (seen room : ℕ) → limit * 6 ≤ length (l .words) → limit ≤ room → Claimable l row seen → tableRefusal (withRow l row) room ≡ fine
-claim-fine l row seen room long roomy c =
+pub claim-fine : (l : Ledger) (row : List ℕ) (seen room : ℕ) → Whole l → limit ≤ room → Claimable l row seen → tableRefusal (withRow l row) room ≡ fine
+claim-fine l row seen room whole roomy c =
     let words : l .held * 6 ≤ length (l .words) = omega (arith, c .room) in
     acceptable (withRow l row) room (with-length l row words (c .six)) (omega arith) (omega (arith, c .room)) (omega (arith, c .room)) (with-good l row words (c .six) (c .held-fit) (c .good))
 

@@ -75,18 +75,18 @@ withdrawal-turn l k seen after a x = go (withdrawalRefusal l k seen) refl
         refused-withdrawal (y .1) (subst (λ (z : Answer). WithdrawalNumber (z .number)) (sym (y .0)) (number-has (withdrawal-numbers l k seen) e))
     go fine e = let y = x .answering e in done-withdrawal (y .0) (y .1) (withdrawable l k seen e)
 
--- no refusal has the number of a change
-pub claim-not : {n : ℕ} → (n ≡ 8) ⊎ ClaimNumber n → n < 100
-claim-not (inl e) = omega arith
-claim-not (inr (inl e)) = omega arith
-claim-not (inr (inr (inl e))) = omega arith
-claim-not (inr (inr (inr (inl e)))) = omega arith
-claim-not (inr (inr (inr (inr (inl e))))) = omega arith
-claim-not (inr (inr (inr (inr (inr (inl e)))))) = omega arith
-claim-not (inr (inr (inr (inr (inr (inr e)))))) = omega arith
+-- no refusal has a number of three digits: those are for answers
+pub claim-small : {n : ℕ} → (n ≡ 8) ⊎ ClaimNumber n → n < 100
+claim-small (inl e) = omega arith
+claim-small (inr (inl e)) = omega arith
+claim-small (inr (inr (inl e))) = omega arith
+claim-small (inr (inr (inr (inl e)))) = omega arith
+claim-small (inr (inr (inr (inr (inl e))))) = omega arith
+claim-small (inr (inr (inr (inr (inr (inl e)))))) = omega arith
+claim-small (inr (inr (inr (inr (inr (inr e)))))) = omega arith
 
-pub withdrawal-not : {n : ℕ} → WithdrawalNumber n → n < 100
-withdrawal-not (inl e) = omega arith
-withdrawal-not (inr (inl e)) = omega arith
-withdrawal-not (inr (inr (inl e))) = omega arith
-withdrawal-not (inr (inr (inr e))) = omega arith
+pub withdrawal-small : {n : ℕ} → WithdrawalNumber n → n < 100
+withdrawal-small (inl e) = omega arith
+withdrawal-small (inr (inl e)) = omega arith
+withdrawal-small (inr (inr (inl e))) = omega arith
+withdrawal-small (inr (inr (inr e))) = omega arith

@@ -1,5 +1,5 @@
 // The verdict on one band. The rows stand one behind the other, in columns of C, T, J and time allowed along an order, and the band is a run of
-// places.
+// places. And what the crates above do alike with lists of words.
 ghost use mathlib.Core.Path.{_≡_};
 ghost use mathlib.Core.List.{_++_};
 ghost use Prim.Native.Nat.{_≤_, _<_, max, min};

@@ -27,7 +27,7 @@ use Rattle.promises.specs.Reckon.{climb, reckon, same-answer, same-answe
 use Rattle.promises.specs.Worked.{Ended, ended, goes-on, follow}
 
 -- a message of 100 bit times in priority, every 1,000 bit times, to be sent within 350
-abbrev sonar : List ℕ
+abbrev pub sonar : List ℕ
 sonar = 0 ∷ 0 ∷ 100 ∷ 1000 ∷ 350 ∷ 0 ∷ []
 
 abbrev says : Call → Answer → Entry
@@ -78,7 +78,7 @@ withdrawn l k fine = changed l (withoutRow l k) (l .held - 1)
 abbrev tried : (l : Ledger) (row : List ℕ) → Ended (tableOf (withRow l row)) [] 0
 tried l row = follow (tableOf (withRow l row)) (suc (rows (withRow l row))) [] 0
 
-abbrev test : Call → Ledger → Answer → Bool
+abbrev pub test : Call → Ledger → Answer → Bool
 test (claiming row seen) l a = claims l row (claimRefusal l row seen) (tried l row) a
 test (withdrawing k seen) l a = withdraws l (withdrawalRefusal l k seen) a
 
@@ -86,7 +86,7 @@ abbrev turns : Call → Ledger → Ledger
 turns (claiming row seen) l = claimed l row (claimRefusal l row seen) (tried l row)
 turns (withdrawing k seen) l = withdrawn l k (withdrawalRefusal l k seen)
 
-right : (c : Call) (l : Ledger) (a : Answer) → Is (test c l a) → Serves c l (turns c l) a
+pub right : (c : Call) (l : Ledger) (a : Answer) → Is (test c l a) → Serves c l (turns c l) a
 right (claiming row seen) l a h = go (claimRefusal l row seen) refl (tried l row) h
   where
     told : (r : Ending) → a ≡ settled l r → (f : Finds (tableOf (withRow l row)) free [] 0 r) → Told l row r (claimed l row fine (ended r f)) a

@@ -9,3 +9,4 @@ pub mod Priority
 pub mod Program
 pub mod Desk
 pub mod LastRoom
+pub mod DeskIdlers

@@ -123,7 +123,7 @@ impl fmt::Display for Refusal {
                 "the table, or the book, has more than 64 rows, or the ledger holds 64 already."
             ),
             Refusal::BadRow { row, field } => {
-                write!(f, "field {field} of row {row} of the table is not allowed.")
+                write!(f, "field {field} of row {row} is not allowed.")
             }
             Refusal::NoRoom => {
                 write!(f, "the list lent for the answer has no room for it.")

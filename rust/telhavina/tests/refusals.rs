@@ -128,7 +128,7 @@ fn first_resumed_fifo() {
 #[test]
 fn in_words() {
     let bad_row = Refusal::BadRow { row: 12, field: 3 };
-    assert_eq!(bad_row.to_string(), "Refusal 3: field 3 of row 12 of the table is not allowed.");
+    assert_eq!(bad_row.to_string(), "Refusal 3: field 3 of row 12 is not allowed.");
     let split = Refusal::SplitQueue { place: 5 };
     assert_eq!(
         split.to_string(),

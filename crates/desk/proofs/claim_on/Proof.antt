@@ -10,7 +10,7 @@ use lib.Seq.{length-take-le}
 use Rattle.licence.specs.Limit.{limit}
 use Rattle.intake.specs.Laws.{replied-refused, replied-answered}
 use Rattle.desk.specs.Laws.{check-stopped, check-passed, Claimable, claimable}
-use Rattle.desk.specs.Ledger.{ledger, changed, withRow}
+use Rattle.desk.specs.Ledger.{ledger, Whole, changed, withRow}
 use Rattle.desk.specs.Replies.{decisionAnswer, Claimed}
 use Rattle.desk.specs.declared.Decision.the-variants.{Granted}
 use Rattle.desk.proofs.Granting.{granted, not-granted, row-added, table-searched}
@@ -18,7 +18,7 @@ use Rattle.desk.proofs.claim_on.Statement.{statement}
 use Rattle.desk.proofs.claim_on.Tie as tie
 
 -- the ledger's words are as many as its type says
-all-words : (c : tie.Start) → length (c .args .l .words) ≡ limit * 6
+all-words : (c : tie.Start) → Whole (c .args .l)
 unfolding limit
 all-words c = search needs
 
@@ -64,7 +64,7 @@ unfolding limit
 returns-2 c =
     let a = c .before .before .before .before .before .before .before .before .before .before .before .before .before .before .before .before .before .args in
     replied-answered (check-passed (c .before .before .before .before .before .before .before .before .before .before .before .before .before .check-claim .ensures) (c .before .before .before .before .before .before .before .before .before .before .before .enum-told .given .1))
-    (not-granted (a .l) (a .row .now) (a .seen) (known (c .before .before .before .before .before .before .before .before .before .before .before)) (omega (arith, all-words (c .before .before .before .before .before .before .before .before .before .before .before .before .before .before .before .before .before))) _ _ _ (lit≤ tt) (searched (c .before .before .before .before .before .before .before .before)) (c .before .finding .given .1) (c .before .before .before .before .find .ensures))
+    (not-granted (a .l) (a .row .now) (a .seen) (known (c .before .before .before .before .before .before .before .before .before .before .before)) (all-words (c .before .before .before .before .before .before .before .before .before .before .before .before .before .before .before .before .before)) _ _ _ (lit≤ tt) (searched (c .before .before .before .before .before .before .before .before)) (c .before .finding .given .1) (c .before .before .before .before .find .ensures))
 
 returns-3 : tie.Need-returns-3
 unfolding limit
@@ -72,7 +72,7 @@ returns-3 c =
     let a = c .before .before .before .before .before .before .before .before .before .before .before .before .before .before .before .before .before .before .args in
     subst (λ (w : List ℕ). Claimed (a .l) (a .row .now) (a .seen) (ledger w (a .l .held + 1) (a .l .edition + 1)) (decisionAnswer (Granted (a .l .edition + 1)))) (sym (row-there (c .before .before .before .before .before .before .before .before .before)))
     (replied-answered (check-passed (c .before .before .before .before .before .before .before .before .before .before .before .before .before .before .check-claim .ensures) (c .before .before .before .before .before .before .before .before .before .before .before .before .enum-told .given .1))
-    (granted (a .l) (a .row .now) (a .seen) (known (c .before .before .before .before .before .before .before .before .before .before .before .before)) (omega (arith, all-words (c .before .before .before .before .before .before .before .before .before .before .before .before .before .before .before .before .before .before))) _ _ _ (lit≤ tt) (searched (c .before .before .before .before .before .before .before .before .before)) (c .before .before .enum-told2 .given .1) (c .before .before .before .before .before .find .ensures)))
+    (granted (a .l) (a .row .now) (a .seen) (known (c .before .before .before .before .before .before .before .before .before .before .before .before)) (all-words (c .before .before .before .before .before .before .before .before .before .before .before .before .before .before .before .before .before .before)) _ _ _ (lit≤ tt) (searched (c .before .before .before .before .before .before .before .before .before)) (c .before .before .enum-told2 .given .1) (c .before .before .before .before .before .find .ensures)))
 
 pub claim-on-spec : {M : Type 1} → statement M
 unfolding limit

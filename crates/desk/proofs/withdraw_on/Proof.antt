@@ -1,13 +1,12 @@
 -- `desk::withdraw_on` meets its contract: the rows behind the one withdrawn are laid over it. Assumes nothing.
 use borrow.Author.Needs.{needs}
 use native.Mathlib.Omega.{arith}
-use Prim.Native.Nat.{ℕ, _+_, _-_, _*_, _≤_}
-use mathlib.Core.Path.{_≡_, refl, sym, subst}
+use Prim.Native.Nat.{ℕ, _+_, _-_, _≤_}
+use mathlib.Core.Path.{refl, sym, subst}
 use mathlib.Core.List.{List}
-use lib.ListN.{length}
 use Rattle.licence.specs.Limit.{limit}
 use Rattle.intake.specs.Laws.{replied-refused, replied-answered}
-use Rattle.desk.specs.Ledger.{ledger}
+use Rattle.desk.specs.Ledger.{ledger, Whole}
 use Rattle.desk.specs.Replies.{decisionAnswer, Withdrawn}
 use Rattle.desk.specs.Laws.{check-stopped, check-passed, Withdrawable, withdrawable}
 use Rattle.desk.specs.declared.Decision.the-variants.{Withdrawn as TakenOut}
@@ -16,7 +15,7 @@ use Rattle.desk.proofs.withdraw_on.Statement.{statement}
 use Rattle.desk.proofs.withdraw_on.Tie as tie
 
 -- the ledger's words are as many as its type says
-all-words : (c : tie.Start) → length (c .args .l .words) ≡ limit * 6
+all-words : (c : tie.Start) → Whole (c .args .l)
 unfolding limit
 all-words c = search needs
 
