@@ -1,4 +1,6 @@
 // The licence book on disk: a reader and a writer, over lent bytes and words.
+#![tactic(auto)]
+
 ghost use Rattle.std.specs.Prelude.{◌≡◌, ◌+◌, ◌*◌, ◌≤◌, length};
 ghost use Rattle.std.proofs.lemmas.List.Edits.{sets};
 ghost use Rattle.licence.specs.Limit.{limit};
@@ -17,14 +19,14 @@ pub fn buffer() -> [u8; LONGEST + 1]
 }
 
 // The number of rows read, or why the bytes are refused.
-#[derive(Drop)]
+#[derive(Clone, Copy)]
 pub enum Reading {
     Rows(u32),
     Refused(intake::Refusal),
 }
 
 // The number of bytes written, or why the words are refused.
-#[derive(Drop)]
+#[derive(Clone, Copy)]
 pub enum Writing {
     Bytes(u32),
     Refused(intake::Refusal),

@@ -1,5 +1,7 @@
 // The claim desk: a ledger of granted rows with an edition, lent to the call and changed in place. A claim brings one row, a withdrawal names
 // one, and both bring the edition that their sender saw. The work is done by value; `claim` and `withdraw` lend it the ledger.
+#![tactic(auto)]
+
 ghost use Rattle.std.specs.Prelude.{◌≡◌, ◌++◌, ◌+◌, ◌-◌, ◌*◌, ◌≤◌, length, take, drop};
 ghost use Rattle.std.proofs.Math.Seq.{slice};
 ghost use Rattle.licence.specs.Limit.{limit};
@@ -14,7 +16,7 @@ const LAST: u32 = 4294967295;
 
 // The rows held, one behind the other from the first word on; how many; and the number of changes so far. Words behind the rows held mean nothing.
 #[repr(C)]
-#[derive(Drop)]
+#[derive(Clone, Copy)]
 pub struct Ledger {
     pub words: [u32; WORDS],
     pub held: u32,
@@ -22,7 +24,7 @@ pub struct Ledger {
 }
 
 // What is decided at the desk. A change carries the new edition.
-#[derive(Drop)]
+#[derive(Clone, Copy)]
 pub enum Decision {
     Granted(u32),
     Withdrawn(u32),
@@ -30,14 +32,14 @@ pub enum Decision {
 }
 
 // The ledger after a call, and what was decided.
-#[derive(Drop)]
+#[derive(Clone, Copy)]
 pub struct Decided {
     pub ledger: Ledger,
     pub decision: Decision,
 }
 
 // What the checks say: fine, or which refusal.
-#[derive(Drop)]
+#[derive(Clone, Copy)]
 enum Checked {
     Fine,
     Refused(intake::Refusal),

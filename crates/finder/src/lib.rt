@@ -1,6 +1,8 @@
 // Finds a priority order. The rows stand in one list, `made`: before place `top` those not placed, band by band, so that the runs of one key
 // there are the bands to try in their order; from there on those placed, highest first. The columns stand along it, so that a verdict is on a run
 // of places and looks for nothing.
+#![tactic(auto)]
+
 ghost use Rattle.std.specs.Prelude.{◌≡◌, ◌++◌, ◌+◌, ◌≤◌, ◌<◌, length, take};
 ghost use Rattle.sums.specs.Columns.{at};
 ghost use Rattle.licence.specs.Limit.{limit};
@@ -11,7 +13,7 @@ ghost use Rattle.finder.specs.Searched.{finding_answer, Answered, Searched};
 ghost use Rattle.finder.specs.Steps.{own_of, Puts, by_band, first_rows, RunEnds, Turned, SixTurned};
 
 // That an order was found, or why none is given.
-#[derive(Drop)]
+#[derive(Clone, Copy)]
 pub enum Finding {
     // The number of bands tried.
     Found(u32),

@@ -1,5 +1,7 @@
 // Takes in a lent table: its checks, refusals 1 to 4, and its numbers, each column in a list of the caller's. And what the desk replies: the
 // refusals, each with its number and what it carries.
+#![tactic(auto)]
+
 ghost use Rattle.std.specs.Prelude.{◌≡◌, ◌*◌, ◌≤◌, length};
 ghost use Rattle.licence.specs.Limit.{limit};
 ghost use Rattle.order.specs.Sheet.{Room};
@@ -7,7 +9,7 @@ ghost use Rattle.intake.specs.Answer.{answer, refusal_answer, said};
 ghost use Rattle.intake.specs.Holds.{RowsRead, Counted, IntakeIs};
 
 // The refusals of document 01 and of the requests after it.
-#[derive(Drop)]
+#[derive(Clone, Copy)]
 pub enum Refusal {
     Ragged,
     TooMany,
@@ -33,7 +35,7 @@ pub enum Refusal {
 
 // A reply's number, and the numbers that it carries, in order, 0 where there are fewer.
 #[repr(C)]
-#[derive(Drop)]
+#[derive(Clone, Copy)]
 pub struct Reply {
     pub number: u32,
     pub first: u32,
@@ -75,7 +77,7 @@ pub fn refusal_reply(r: Refusal) -> Reply
 }
 
 // The number of rows taken in, or why the table is refused.
-#[derive(Drop)]
+#[derive(Clone, Copy)]
 pub enum Intake {
     Rows(usize),
     Refused(Refusal),

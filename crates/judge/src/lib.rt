@@ -1,4 +1,6 @@
 // Judges a given priority order.
+#![tactic(auto)]
+
 ghost use Rattle.std.specs.Prelude.{◌≡◌, ◌-◌, ◌+◌, ◌≤◌, ◌<◌, length};
 ghost use Rattle.sums.specs.Masks.{lowest};
 ghost use Rattle.sums.specs.Columns.{at};
@@ -11,7 +13,7 @@ ghost use Rattle.judge.specs.Judged.{judgement_answer, Written, Judged};
 ghost use Rattle.judge.specs.Walk.{place_of, InRange, Sound, shown_as, zero_at, RunStarts, PutFor, Laid, FilledFrom, OrderJudged};
 
 // The answer to an order, or why it is refused.
-#[derive(Drop)]
+#[derive(Clone, Copy)]
 pub enum Judgement {
     Passed,
     // The first late position.
@@ -20,7 +22,7 @@ pub enum Judgement {
 }
 
 // The first place that a search looks for, if there is one.
-#[derive(Drop)]
+#[derive(Clone, Copy)]
 pub enum Found {
     At(u32),
     Nowhere,

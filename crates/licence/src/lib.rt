@@ -1,4 +1,6 @@
 // One row of the licence table: six words are read once into a record, and the numbers of the row are taken from that.
+#![tactic(auto)]
+
 ghost use Rattle.std.specs.Prelude.{◌&&◌, ◌≡◌, ◌+◌, ◌*◌, ◌≤◌, ◌<◌, leb, length};
 ghost use Rattle.licence.specs.Row.{word, size_allowed, first_bad, length_of, queue_of, row_of, reading_of, read_at, field_of, frame, bit_times, band_key};
 
@@ -9,20 +11,20 @@ pub const LIMIT: usize = 64;
 pub const KEYS: usize = LIMIT + 65;
 
 // A length in bit times, or the byte count of a frame with an 11-bit or a 29-bit identifier.
-#[derive(Drop)]
+#[derive(Clone, Copy)]
 pub enum Length {
     Bits(u32),
     Std(u32),
     Ext(u32),
 }
 
-#[derive(Drop)]
+#[derive(Clone, Copy)]
 pub enum Queue {
     Priority,
     Fifo(u32),
 }
 
-#[derive(Drop)]
+#[derive(Clone, Copy)]
 pub struct Row {
     pub queue: Queue,
     pub length: Length,
@@ -32,7 +34,7 @@ pub struct Row {
 }
 
 // A row that can be read, or the lowest bad field of one that can't.
-#[derive(Drop)]
+#[derive(Clone, Copy)]
 pub enum Reading {
     Good(Row),
     Bad(u32),

@@ -1,4 +1,6 @@
 // Makes the text for a book, which the program writes: a line a row, highest first, or one line that refuses.
+#![tactic(auto)]
+
 ghost use Rattle.std.specs.Prelude.{◌≡◌, ℕ, ◌+◌, ◌*◌, ◌≤◌, ◌<◌, length};
 ghost use Rattle.std.proofs.lemmas.List.Edits.{sets};
 ghost use Rattle.sums.specs.Columns.{at as Columns·at};

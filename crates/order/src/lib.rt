@@ -1,12 +1,14 @@
 // The verdict on one band. The rows stand one behind the other, in columns of C, T, J and time allowed along an order, and the band is a run of
 // places. And what the crates above do alike with lists of words.
+#![tactic(auto)]
+
 ghost use Rattle.std.specs.Prelude.{◌≡◌, ◌++◌, ◌≤◌, ◌<◌, max, min, length, take, drop};
 ghost use Rattle.sums.specs.Columns.{at};
 ghost use Rattle.sums.specs.Masks.{run};
 ghost use Rattle.order.specs.Sheet.{Lengths, AlongIn, Along, AlignedIn, Aligned, NumbersAre, RunIn, RunVerdict, Stretch, LongestIs};
 
 // A band's figure, or that it is late.
-#[derive(Drop)]
+#[derive(Clone, Copy)]
 pub enum Verdict {
     Figure(u32),
     Late,
@@ -81,7 +83,7 @@ pub fn align(
 }
 
 // MAX, SUM, MIN and the least time allowed of a run.
-#[derive(Drop)]
+#[derive(Clone, Copy)]
 pub struct Numbers {
     pub longest: u32,
     pub sum: u32,

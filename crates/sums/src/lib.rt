@@ -1,4 +1,6 @@
 // The search for the least solution of the equation for w. Numbers only: rows come as lists of their C, T and J.
+#![tactic(auto)]
+
 ghost use Rattle.std.specs.Prelude.{◌≡◌, ◌+◌, ◌*◌, ◌≤◌, length};
 ghost use Rattle.sums.specs.Columns.{Columns, at};
 ghost use Rattle.sums.specs.Masks.{run, outside};
@@ -6,14 +8,14 @@ ghost use Rattle.sums.specs.Sums.{sum_over, ceil, demand};
 ghost use Rattle.sums.specs.Least.{SettledIs, DemandIs};
 
 // The least solution within a cap, or that there is none within it.
-#[derive(Drop)]
+#[derive(Clone, Copy)]
 pub enum Settled {
     At(u32),
     Never,
 }
 
 // A sum within a cap, or that it is past it.
-#[derive(Drop)]
+#[derive(Clone, Copy)]
 pub enum Demand {
     Is(u32),
     Past,

@@ -1,4 +1,6 @@
 // What C and Rust call. Nothing is decided here: each function hands its lists on, and gives the answer its number.
+#![tactic(auto)]
+
 ghost use Rattle.std.specs.Prelude.{◌≡◌};
 ghost use Rattle.intake.specs.Answer.{said};
 ghost use Rattle.book.specs.Replies.{reading_answer, writing_answer, BookRead, BookWritten};

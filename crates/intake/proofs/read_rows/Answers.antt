@@ -1,0 +1,79 @@
+-- `intake::read_rows` meets its contract: after i rows, all of them can be read and the columns hold them. Assumes nothing.
+use borrow.Author.Rules.{rules}
+use native.Mathlib.Omega.{arith}
+use Prim.Native.Nat.{◌+◌, ◌≤◌}
+use mathlib.Core.Path.{◌≡◌, refl, sym, ap, subst, ◌∙◌}
+use Rattle.sums.specs.MaskLaws.{lowest_at, lowest_none}
+use Rattle.licence.specs.Limit.{limit}
+use Rattle.licence.specs.Row.{row_at, bad_field, bit_times, band_key, field_of}
+use Rattle.licence.specs.Laws.{Allowed, row_allowed, read_good, read_bad}
+use Rattle.licence.specs.declared.Row.{Row}
+use Rattle.intake.specs.Words.{bad_row}
+use Rattle.intake.specs.Answer.{answer}
+use Rattle.intake.specs.Laws.{bad_row_lem, good_row}
+use Rattle.order.specs.Sheet.{Room}
+use Rattle.intake.proofs.Progress.{kept_next, progress_next}
+use Rattle.intake.proofs.read_rows.Goals as goal
+use Rattle.intake.proofs.read_rows.Goals.{In-Good}
+
+-- a row that can be read is the table's row i, with numbers as document 01 allows them
+row_is : (c : In-Good) → let words = c.args.table.now in let i = c.loop-i.i in
+    (bad_field words i ≡ 0) × (c.in-Good.row ≡ row_at words i)
+row_is c = read_good _ _ (sym c.read_row-reading.ensures ∙ c.in-Good.is)
+
+allowed : (c : In-Good) → Allowed c.args.table.now c.loop-i.i
+allowed c = row_allowed _ _ (row_is c).0
+
+pub overflow_cast-result : goal.overflow_cast-result
+unfolding limit
+overflow_cast-result c = search rules
+
+-- the first row that can't be read
+pub returns-in_default : goal.returns-in_default
+returns-in_default c =
+    let words = c.args.table.now in
+    let i = c.loop-i.i in
+    let p = c.loop-i.invariant.2 in
+    let r = read_bad words i (sym c.read_row-reading.ensures ∙ c.in_default.is) in
+    (i, lowest_at _ (bad_row words) i (omega arith) (bad_row_lem words i r.0) (λ k l. good_row words k (p.good k l)), ap (answer 3 i) (c.field_of.ensures ∙ (ap field_of c.in_default.is ∙ r.1)))
+
+pub bit_times-requires : goal.bit_times-requires
+bit_times-requires c = subst (λ (r : Row). bit_times r.length ≤ 4096) (sym (row_is (goal.at.bit_times-requires c).In-Good).1) (allowed (goal.at.bit_times-requires c).In-Good).length_le
+
+pub overflow_sub-e : goal.overflow_sub-e
+overflow_sub-e c = omega (arith, ap (λ (r : Row). r.jitter) (row_is (goal.at.overflow_sub-e c).In-Good).1, ap (λ (r : Row). r.deadline) (row_is (goal.at.overflow_sub-e c).In-Good).1, (allowed (goal.at.overflow_sub-e c).In-Good).jitter_le)
+
+pub overflow_cast-i : goal.overflow_cast-i
+unfolding limit
+overflow_cast-i c = search rules
+
+pub band_key-requires : goal.band_key-requires
+unfolding limit
+band_key-requires c = let few = c.requires.0 in omega arith
+
+pub loop-i-preserved : goal.loop-i-preserved
+loop-i-preserved c =
+    let l = c.loop-i in
+    let r = row_is (goal.at.loop-i-preserved c).In-Good in
+    let p = c.requires.2 in
+    let k = l.invariant.1 in
+    let room : Room (l.i + 1) l.c l.t l.j l.e l.key =
+    record {
+      long_c = omega (arith, k.same_c, p.long_c);
+      long_t = omega (arith, k.same_t, p.long_t);
+      long_j = omega (arith, k.same_j, p.long_j);
+      long_e = omega (arith, k.same_e, p.long_e);
+      long_key = omega (arith, k.same_key, p.long_key);
+    } in (
+      omega arith,
+      kept_next _ _ _ _ _ _ l.invariant.1,
+      progress_next _ _ _ _ _ _ _ room r.0 (c.bit_times.ensures ∙ ap (λ (x : Row). bit_times x.length) r.1) (ap (λ (x : Row). x.period) r.1) (ap (λ (x : Row). x.jitter) r.1) (omega (arith, ap (λ (x : Row). x.deadline) r.1, ap (λ (x : Row). x.jitter) r.1))
+          (c.band_key.ensures ∙ ap (λ (x : Row). band_key x.queue l.i) r.1) l.invariant.2,
+    )
+
+pub returns : goal.returns
+returns c =
+    let n = c.args.n in
+    let e : c.loop-i.i ≡ n = omega arith in
+    let p = rw e at c.loop-i.invariant.2 in
+    (refl, lowest_none n (bad_row _) (λ k l. good_row _ k (p.good k l)), p.holds)
