@@ -4,3 +4,4 @@ mod Runs
 mod Filling
 mod Checks
 mod Joined
+mod OneKey
