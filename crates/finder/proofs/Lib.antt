@@ -7,3 +7,4 @@ pub mod Waiting
 pub mod Search
 pub mod Turns
 pub mod Joined
+mod Columns

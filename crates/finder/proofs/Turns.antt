@@ -24,7 +24,7 @@ use Rattle.finder.specs.Steps.{by_band, first_rows, RunEnds, turned, Turned, Six
 use Rattle.finder.proofs.Turning.{turned_within, turned_after, front_now, back_now}
 use Rattle.finder.proofs.ByBand.{bands_of}
 use Rattle.finder.proofs.Waiting.{Tried, Next, next_of, rows, tried_late}
-use Rattle.finder.proofs.Search.{Before, before_first, front_range, parts, lengths, run_is, verdict_is, longest_now, before_next}
+use Rattle.finder.proofs.Search.{Before, before_first, front_range, parts, run_is, verdict_is, longest_now, before_next}
 
 -- a column stays along the rows when both are turned
 along_turned : (n s e top : ℕ) (column made made' along along' : List ℕ) → s ≤ e → e ≤ top → top ≤ n → Turned s e top made made' → Turned s e top along along' → Along n column made along → Along n column made' along'

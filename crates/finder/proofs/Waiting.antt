@@ -11,7 +11,6 @@ use lib.Seq.{append_snoc}
 use lib.Dec.{T as Is}
 use Rattle.sums.specs.Masks.{Mask}
 use Rattle.sums.specs.MaskLaws.{and_intro}
-use Rattle.sums.specs.Columns.{at}
 use Rattle.sums.specs.Sums.{count}
 use Rattle.order.specs.Table.{Table, band}
 use Rattle.order.specs.Orders.{mem}

@@ -1,0 +1,17 @@
+-- `finder::arrange` meets its contract: the rows stand band by band, and each column along them. Assumes nothing.
+use borrow.Author.Rules.{rules}
+use native.Mathlib.Omega.{arith}
+use Prim.Native.Nat.{◌≤◌}
+use mathlib.Core.Path.{◌≡◌}
+use lib.ListN.{length}
+use Rattle.intake.specs.Held.{held_room}
+use Rattle.finder.proofs.Lining.{lined_range}
+use Rattle.finder.proofs.arrange.Goals as goal
+
+pub align-requires : goal.align-requires
+align-requires c =
+    let s = c in
+    let rows = c.line_up.new.made in
+    let kept : length rows ≡ length s.args.made.now = search rules in
+    let long : s.args.n ≤ length rows = omega (arith, s.requires.1) in
+    record { columns = held_room s.requires.0; room = s.requires.2; long_order = long; range = lined_range s.args.n s.args.key.now rows long c.line_up.ensures }
