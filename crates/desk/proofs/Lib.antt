@@ -2,3 +2,4 @@
 mod Rows
 mod Granting
 mod Closing
+mod Held

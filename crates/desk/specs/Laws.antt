@@ -11,7 +11,7 @@ use Rattle.sums.specs.MaskLaws.{is_true, is_false, any_intro, any_elim}
 use Rattle.licence.specs.Limit.{limit}
 use Rattle.licence.specs.Row.{bad_field}
 use Rattle.intake.specs.Words.{bad_row}
-use Rattle.intake.specs.Answer.{answer, refusal_answer, Answer, Check, refused, fine, refuse_if, ◌then◌}
+use Rattle.intake.specs.Answer.{answer, refusal_answer, Answer, Check, refused, fine, refuse_if}
 use Rattle.intake.specs.declared.Refusal.{Refusal}
 use Rattle.intake.specs.Laws.{then_fine, if_fine, bad_row_lem, good_row, row_good}
 use Rattle.desk.specs.Ledger.{last_edition, unfit, edition_refusal, claim_refusal, withdrawal_refusal}

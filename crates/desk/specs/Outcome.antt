@@ -1,7 +1,7 @@
 -- What follows from the statements of claiming and withdrawing: each leaves room for a single outcome, a refusal alters nothing, and a claim that no
 -- check refuses is granted exactly where an order passes. The promises come first, their proofs below.
 -- Assumes nothing.
-use Rattle.std.specs.Prelude.{ℕ, ◌+◌, ◌-◌, ◌*◌, ◌≤◌, ◌≡◌, refl, ◌⊎◌, ◌↔◌, cond, List, [], ◌++◌, length, eqb}
+use Rattle.std.specs.Prelude.{ℕ, ◌+◌, ◌*◌, ◌≤◌, ◌≡◌, refl, ◌⊎◌, ◌↔◌, cond, List, [], ◌++◌, length, eqb}
 use Rattle.std.proofs.Common.{arith, ap, ap₂, subst, ◌∙◌, inl, inr, append-nil, drop_of_length-le, take_at, lit≤}
 use Rattle.licence.specs.Laws.{row_allowed}
 use Rattle.order.specs.Orders.{HasOrder}
