@@ -7,7 +7,8 @@ use Rattle.sums.specs.Masks.{Mask, except}
 use Rattle.sums.specs.MaskLaws.{and_left, and_right, and_intro}
 use Rattle.sums.specs.Sums.{demand}
 use Rattle.sums.specs.Laws.{demand_grows}
-use Rattle.sums.specs.Move.{Moved, move_loads}
+use Rattle.sums.specs.Move.{Moved}
+use Rattle.sums.proofs.Moving.{move_loads}
 use Rattle.sums.specs.Climb.{fits_mono}
 use Rattle.order.specs.Table.{Table, MAX, MIN, least_e, base, F, Passes}
 

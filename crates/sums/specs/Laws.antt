@@ -2,7 +2,7 @@
 -- they grow with what they are over. So does F.
 -- Assumes nothing.
 use Prim.Native.Nat.{ℕ, zero, suc, ◌+◌, ◌*◌, ◌≤◌, ◌<◌, max, min, zero-le}
-use Rattle.std.proofs.Common.{le_refl, le_trans, le_antisymm, le_of_eq, mul-one, mul-le-mul, add-le-add, eq-or-lt_of_le, le_of_suc-le-suc, sym, subst, ◌∙◌, inl, inr}
+use Rattle.std.proofs.Common.{le_refl, le_trans, le_antisymm, mul-le-mul, add-le-add, eq-or-lt_of_le, le_of_suc-le-suc, sym, subst, ◌∙◌, inl, inr}
 use Rattle.std.proofs.Math.Numerals.{add-one}
 use native.Mathlib.Omega.{arith}
 use Rattle.std.specs.Prelude.{◌≡◌, ◌⊎◌, Bool, true, false, cond}
@@ -11,7 +11,7 @@ use Rattle.std.proofs.Math.Dec.{T as Is}
 use Rattle.sums.specs.Masks.{Mask}
 use Rattle.sums.specs.MaskLaws.{is_true, is_false}
 use Rattle.sums.specs.Sums.{over, sum_over, max_over, min_from, min_over, load, demand}
-use Rattle.sums.specs.Quotient.{ceil_mono, ceil_anti, ceil_pos}
+use Rattle.sums.specs.Quotient.{ceil_mono, ceil_anti}
 
 -- ---- only the rows below n count
 
@@ -202,11 +202,6 @@ load_mono C T J C' T' J' w w' k p hw h_c h_t h_j =
 pub load_grows : (C T J : ℕ → ℕ) (w w' k : ℕ) → w' ≤ w → load C T J w' k ≤ load C T J w k
 unfolding load
 load_grows C T J w w' k hw = mul-le-mul (le_refl (C k)) (ceil_mono (T k) (omega arith))
-
--- it is at least C
-pub load_once : (C T J : ℕ → ℕ) (w k : ℕ) → 0 < T k → C k ≤ load C T J w k
-unfolding load
-load_once C T J w k p = le_trans (le_of_eq (sym (mul-one (C k)))) (mul-le-mul (le_refl (C k)) (ceil_pos _ (T k) (omega arith) p))
 
 pub load_same : (C T J C' T' J' : ℕ → ℕ) (w k k' : ℕ) → C k ≡ C' k' → T k ≡ T' k' → J k ≡ J' k' → load C T J w k ≡ load C' T' J' w k'
 unfolding load

@@ -7,7 +7,6 @@ pub mod Runs
 pub mod Move
 pub mod Least
 pub mod Climb
-pub mod Start
 pub mod Columns
 pub mod ColumnLaws
 pub mod Embed

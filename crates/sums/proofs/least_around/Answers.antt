@@ -9,7 +9,7 @@ use Rattle.sums.specs.Masks.{outside}
 use Rattle.sums.specs.Sums.{sum_over, demand}
 use Rattle.sums.specs.Laws.{demand_grows}
 use Rattle.sums.specs.Climb.{OnWay, one_step, too_far, demand_is, demand_past}
-use Rattle.sums.specs.Start.{start_on_way}
+use Rattle.sums.proofs.Start.{start_on_way}
 use Rattle.sums.proofs.least_around.Goals as goal
 use Rattle.sums.proofs.least_around.Goals.{In-Is-sum, Start}
 

@@ -5,7 +5,8 @@ use Rattle.std.specs.Prelude.{ℕ, ◌+◌, ◌≤◌, ◌<◌}
 use Rattle.std.proofs.Common.{arith}
 use Rattle.sums.specs.Masks.{Mask}
 use Rattle.sums.specs.Sums.{sum_over, load, demand}
-use Rattle.sums.specs.Laws.{sum_mono, load_once}
+use Rattle.sums.specs.Laws.{sum_mono}
+use Rattle.sums.proofs.Loads.{load_once}
 use Rattle.sums.specs.Climb.{OnWay, from_below}
 
 module _ (n : ℕ) (C T J : ℕ → ℕ) (base : ℕ) (above : Mask) (T_pos : (k : ℕ) → k < n → 0 < T k) where
