@@ -60,6 +60,7 @@ module _ (τ : Table) where
 
   has_head : (x : Frame) (w : List Frame) → x ∈ w → HasHead x w
   unfolding heads
+  has_head x [] m = elim m [ ]
   has_head x (f ∷ w) (Memᴰ.head p) = (f, Memᴰ.head refl, Memᴰ.head refl, ap (queue τ) (sym p))
   has_head x (f ∷ w) (Memᴰ.tail m) = go (has_head x w m) (ℕ_discrete (queue τ x) (queue τ f))
     where

@@ -28,6 +28,7 @@ pub total_mono : (g h : Frame → ℕ) (l : List Frame) → ((x : Frame) → x �
 total_mono g h l p = omega (arith, total_split g h (λ x. 0) l (λ x m. omega (arith, p x m)), total_zero (λ x. 0) l (λ x m. refl))
 
 pub total_in : (h : Frame → ℕ) (x : Frame) (l : List Frame) → x ∈ l → h x ≤ total h l
+total_in h x [] m = elim m [ ]
 total_in h x (y ∷ l) (Memᴰ.head e) = omega (arith, ap h e)
 total_in h x (y ∷ l) (Memᴰ.tail m) = omega (arith, total_in h x l m)
 
@@ -46,6 +47,7 @@ module _ {P : Frame → Type 0} (p : (x : Frame) → Dec (P x)) where
 
   pub keeps : (x : Frame) (l : List Frame) → x ∈ l → P x → x ∈ keep p l
   unfolding keep
+  keeps x [] m q = elim m [ ]
   keeps x (y ∷ l) m q = go (p y) (λ k. keeps x l k q) m
     where
       go : (d : Dec (P y)) → (x ∈ l → x ∈ keep p l) → x ∈ (y ∷ l) → x ∈ if d (y ∷ keep p l) (keep p l)
@@ -99,6 +101,7 @@ abbrev Without : (Frame → ℕ) → Frame → List Frame → Type 0
 Without h x l = (r : List Frame) × (total h l ≡ h x + total h r) × ((y : Frame) → y ∈ l → (y ≡ x) ⊎ (y ∈ r))
 
 without : (h : Frame → ℕ) (x : Frame) (l : List Frame) → x ∈ l → Without h x l
+without h x [] m = elim m [ ]
 without h x (y ∷ l) (Memᴰ.head e) =
     (l, omega (arith, ap h e), λ z m. elim m [ Memᴰ.head k ↦ inl (k ∙ sym e) | Memᴰ.tail k ↦ inr k ])
 without h x (y ∷ l) (Memᴰ.tail m) = go (without h x l m)

@@ -59,6 +59,7 @@ module _ (τ : Table) where
 
   -- two frames of one row are one, or apart
   pub one_or_apart : (l : List Frame) (x y : Frame) → Spaced τ l → x ∈ l → y ∈ l → x.row ≡ y.row → (x ≡ y) ⊎ Apart τ x y
+  one_or_apart [] x y sp m n e = elim m [ ]
   one_or_apart (z ∷ l) x y sp (Memᴰ.head a) (Memᴰ.head b) e = inl (a ∙ sym b)
   one_or_apart (z ∷ l) x y sp (Memᴰ.head a) (Memᴰ.tail n) e = inr (rw a (sp.0 y n (ap (λ (f : Frame). f.row) (sym a) ∙ e)))
   one_or_apart (z ∷ l) x y sp (Memᴰ.tail m) (Memᴰ.head b) e =

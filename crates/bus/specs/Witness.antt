@@ -46,6 +46,7 @@ module _ (τ : Table) where
   ]
 
   a_full : (n : ℕ) (f : Frame) → f ∈ fulls n → (k : ℕ) × (k < n) × (f ≡ full k)
+  a_full zero f m = elim m [ ]
   a_full (suc n) f (Memᴰ.head e) = (n, le_refl (suc n), e)
   a_full (suc n) f (Memᴰ.tail m) = let y = a_full n f m in (y.0, omega (arith, y.1), y.2)
 
@@ -91,6 +92,7 @@ Each P [] = Unit {0}
 Each P (x ∷ l) = P x × Each P l
 
 each : {A : Type 0} (P : A → Type 0) (l : List A) → Each P l → (x : A) → x ∈ l → P x
+each P [] h x m = elim m [ ]
 each P (y ∷ l) h x (Memᴰ.head e) = subst P (sym e) h.0
 each P (y ∷ l) h x (Memᴰ.tail m) = each P l h.1 x m
 
