@@ -1,10 +1,9 @@
--- A run worked out by hand, and the log that the model gives for it: a frame that blocks, a FIFO, and a higher row that comes in between.
+-- A run to be worked out by hand: a frame that blocks, a FIFO, and a higher row that comes in between. Definitions only.
 -- Assumes nothing.
-use Rattle.std.specs.Prelude.{ℕ, ◌≡◌, refl, List, [], ◌∷◌}
-use Rattle.std.proofs.Math.Decide.{ℕ_discrete, dec_lt}
+use Rattle.std.specs.Prelude.{ℕ, List, [], ◌∷◌}
 use Rattle.sums.specs.Columns.{at}
 use Rattle.order.specs.Table.{Table}
-use Rattle.bus.specs.Model.{Frame, Run, Sent, place, keep, heads, behead, highest, begin, compete_of, compete_on, compete, pass_on, pass, join, step, state}
+use Rattle.bus.specs.Model.{Frame, Run, Sent}
 
 -- row 0, a priority row with a jitter; rows 1 and 2, a FIFO; row 3, a priority row
 abbrev pub table : Table
@@ -50,10 +49,3 @@ run =
 -- it was wholly sent at e
 abbrev pub sent : Frame → (e : ℕ) → Sent
 sent f e = record { frame = f; at = e }
-
--- Row 3 finds the bus free at 0 and holds it until 5, though all that stands higher comes meanwhile. At 5 row 0 goes first, until 7; then row 2, the
--- oldest of the FIFO though row 1 stands higher, until 11. Row 0, queued in that very bit time, goes before row 1, until 13; and row 1 until 15. The
--- last sent stands first.
-pub log_by_hand : (state table order run 21).log ≡ sent short 15 ∷ sent second 13 ∷ sent older 11 ∷ sent first 7 ∷ sent blocker 5 ∷ []
-unfolding state step join pass pass_on compete compete_on compete_of begin behead highest heads keep place ℕ_discrete dec_lt
-log_by_hand = refl

@@ -7,7 +7,6 @@ pub mod Trace
 pub mod Competing
 pub mod Enough
 pub mod Coming
-pub mod Waiting
 pub mod Serve
 pub mod Kept
 pub mod Witness

@@ -12,7 +12,7 @@ use Rattle.order.specs.Orders.{own, above, below, FigureAt, AllPass}
 use Rattle.order.specs.Figures.{passes_figure}
 use Rattle.order.specs.Bands.{band_intro}
 use Rattle.bus.specs.Model.{Frame, Run, ◌∈◌, during, SentAt, SentBy, Legal, Sane}
-use Rattle.bus.specs.Kept.{kept}
+use Rattle.bus.proofs.Kept.{kept}
 use Rattle.intake.specs.Words.{rows, table_of}
 use Rattle.intake.specs.Answer.{Answer}
 use Rattle.judge.specs.Judged.{Judged}

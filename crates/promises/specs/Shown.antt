@@ -7,7 +7,8 @@ use mathlib.Core.List.Memᴰ
 use Rattle.sums.specs.Columns.{at}
 use Rattle.order.specs.Table.{Table}
 use Rattle.bus.specs.Model.{Run, SentBy, Legal}
-use Rattle.bus.specs.Witness.{full, burst, full_in, burst_legal}
+use Rattle.bus.specs.Witness.{full, burst}
+use Rattle.bus.proofs.Witness.{full_in, burst_legal}
 use Rattle.intake.specs.Words.{table_of}
 use Rattle.intake.specs.Answer.{answer}
 use Rattle.judge.specs.Judged.{Judged}

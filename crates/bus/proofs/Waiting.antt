@@ -14,12 +14,18 @@ use Rattle.sums.specs.MaskLaws.{which}
 use Rattle.order.specs.Table.{Table, MIN}
 use Rattle.order.specs.Orders.{Order, own}
 use Rattle.bus.specs.Model.{Frame, Run, State, ◌∈◌, during, state, join, Licensed, Legal, Sane}
-use Rattle.bus.specs.Frames.{total, total_append, total_zero, total_in}
-use Rattle.bus.specs.Compete.{Takes, busy, idle, Turn, rests, begins, turn, Wins, takes_in, takes_total}
-use Rattle.bus.specs.Trace.{left, joined, settled, next_waiting, next_left, still, lawful, window, window_more}
-use Rattle.bus.specs.Competing.{Competes, rivals, fresh, remaining, Prompt, rival_waits, remaining_le, remaining_less, rivals_next}
-use Rattle.bus.specs.Enough.{longest, Enough, Clear, Side, side, long_below, short_own, longest_most, bits, most, bits_above, no_bits, most_own, no_most}
-use Rattle.bus.specs.Coming.{coming, own_coming, coming_most, own_coming_most}
+use Rattle.bus.specs.Frames.{total}
+use Rattle.bus.specs.Compete.{Takes, busy, idle, Turn, rests, begins, Wins}
+use Rattle.bus.specs.Trace.{left, joined, settled, window}
+use Rattle.bus.specs.Competing.{Competes, rivals, fresh, remaining, Prompt}
+use Rattle.bus.specs.Enough.{longest, Enough, Clear, Side, bits, most}
+use Rattle.bus.specs.Coming.{coming, own_coming}
+use Rattle.bus.proofs.Frames.{total_append, total_zero, total_in}
+use Rattle.bus.proofs.Compete.{turn, takes_in, takes_total}
+use Rattle.bus.proofs.Trace.{next_waiting, next_left, still, lawful, window_more}
+use Rattle.bus.proofs.Competing.{rival_waits, remaining_le, remaining_less, rivals_next}
+use Rattle.bus.proofs.Enough.{side, long_below, short_own, longest_most, bits_above, no_bits, most_own, no_most}
+use Rattle.bus.proofs.Coming.{coming_most, own_coming_most}
 
 module _ (τ : Table) (sane : Sane τ) (o : List ℕ) (ord : Order τ o) (run : Run) (legal : Legal τ run) (comp : List Frame → List Frame) (K : Competes τ comp)
     (f : ℕ → ℕ) (p w : ℕ) (enough : Enough τ o f p w) (clear : Clear τ o comp p) where
