@@ -6,7 +6,7 @@ use mathlib.Core.List.{List, ◌++◌}
 use lib.ListN.{length, take, drop}
 use lib.Seq.{slice, take-take}
 use Rattle.desk.specs.Ledger.{held_words, changed, without_row}
-use Rattle.desk.specs.Rows.{held_length, out_length}
+use Rattle.desk.proofs.HeldRows.{held_length, out_length}
 use Rattle.desk.specs.declared.Ledger.{Ledger}
 
 pub row_out_lem : (l : Ledger) (k : ℕ) (w : List ℕ) (i n : ℕ) → i ≡ k → n ≡ l.held → k < l.held → l.held * 6 ≤ length l.words

@@ -15,8 +15,8 @@ use Rattle.finder.specs.Searched.{finding_answer, Searched, Told as FinderTold, 
 use Rattle.finder.specs.declared.Finding.{Finding}
 use Rattle.finder.specs.declared.Finding.TheVariants.{Found, Refused}
 use Rattle.desk.specs.Ledger.{Whole, changed, with_row}
-use Rattle.desk.specs.Laws.{Claimable}
-use Rattle.desk.specs.Rows.{with_length, claim_fine}
+use Rattle.desk.proofs.Laws.{Claimable}
+use Rattle.desk.proofs.HeldRows.{with_length, claim_fine}
 use Rattle.desk.specs.Replies.{decision_answer, Told, Answered}
 use Rattle.desk.specs.declared.Ledger.{Ledger}
 use Rattle.desk.specs.declared.Decision.TheVariants.{Granted}

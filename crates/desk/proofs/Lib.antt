@@ -3,3 +3,9 @@ mod Rows
 mod Granting
 mod Closing
 mod Held
+pub mod Laws
+pub mod Turns
+pub mod Outcome
+pub mod Kept
+pub mod HeldRows
+pub mod Leaving

@@ -1,9 +1,5 @@
 pub mod Ledger
 pub mod Replies
-pub mod Laws
-pub mod Rows
-pub mod Turns
-pub mod Leaving
 pub mod Outcome
 pub mod History
 pub mod Flat

@@ -8,3 +8,6 @@ pub mod Search
 pub mod Turns
 pub mod Joined
 mod Columns
+pub mod Standing
+pub mod Right
+pub mod Outcome

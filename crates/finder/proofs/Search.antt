@@ -26,7 +26,8 @@ use Rattle.order.specs.declared.Verdict.{Verdict}
 use Rattle.finder.specs.Placing.{Ending, found, none, rising, leads, unplaced, placing, PassesOver, free, candidate, Finds, done, place, stuck}
 use Rattle.finder.specs.Rising.{mem_both, at_left, at_right, rising_elim, rising_intro, rising_once, rising_same}
 use Rattle.finder.specs.Leading.{unplaced_out, candidate_unplaced, band_rows_elim, band_rows_intro}
-use Rattle.finder.specs.Standing.{Standing, standing_none, standing_next, unplaced_of}
+use Rattle.finder.specs.Standing.{Standing}
+use Rattle.finder.proofs.Standing.{standing_none, standing_next, unplaced_of}
 use Rattle.finder.specs.Steps.{by_band, first_rows, RunEnds}
 use Rattle.finder.proofs.Sorted.{rising_length}
 use Rattle.finder.proofs.ByBand.{bands_of, bands_append, bands_elim, bands_intro, bands_once}

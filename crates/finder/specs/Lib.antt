@@ -2,7 +2,6 @@ pub mod Placing
 pub mod Rising
 pub mod Leading
 pub mod Standing
-pub mod Right
 pub mod Tried
 pub mod Searched
 pub mod Outcome

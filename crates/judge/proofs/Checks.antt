@@ -15,7 +15,7 @@ use Rattle.order.specs.Orders.{bad_entry, resumes, PassesAt, own, above, below}
 use Rattle.order.specs.Figures.{figure_passes}
 use Rattle.intake.specs.Answer.{answer, refused, fine}
 use Rattle.judge.specs.Judged.{order_refusal, LateAt, ShownAt, Written, Answered}
-use Rattle.judge.specs.Outcome.{zero_late}
+use Rattle.judge.proofs.Outcome.{zero_late}
 use Rattle.judge.specs.Walk.{zero_at}
 
 module _ (τ : Table) (o : List ℕ) where

@@ -5,3 +5,4 @@ mod Filling
 mod Checks
 mod Joined
 mod OneKey
+pub mod Outcome

@@ -13,7 +13,7 @@ use Rattle.intake.specs.Laws.{accepted}
 use Rattle.intake.specs.Told.{refusal_small}
 use Rattle.intake.specs.declared.Refusal.{Refusal}
 use Rattle.finder.specs.Searched.{Searched}
-use Rattle.finder.specs.Outcome.{found_means, found_there}
+use Rattle.finder.proofs.Outcome.{found_means, found_there}
 use Rattle.book.specs.ListLaws.{sets_laid, take_laid}
 use Rattle.listing.specs.Text.{refused_line, line_most}
 use Rattle.listing.specs.TextLaws.{decimal_length, refused_length}

@@ -13,10 +13,10 @@ use Rattle.intake.specs.Laws.{shaped}
 use Rattle.intake.specs.Told.{refusal_small, number_has, only_3}
 use Rattle.intake.specs.declared.Refusal.{Refusal}
 use Rattle.judge.specs.Judged.{Judged}
-use Rattle.judge.specs.Outcome.{one_outcome as one_judged}
+use Rattle.judge.proofs.Outcome.{one_outcome as one_judged}
 use Rattle.finder.specs.Placing.{Ending, found, none}
 use Rattle.finder.specs.Searched.{Told, Searched}
-use Rattle.finder.specs.Outcome.{one_outcome as one_searched}
+use Rattle.finder.proofs.Outcome.{one_outcome as one_searched}
 use Rattle.book.specs.Book.{size, words_of}
 use Rattle.book.specs.Replies.{book_refusal}
 use Rattle.book.specs.Laws.{words_shape}

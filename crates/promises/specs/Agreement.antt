@@ -8,9 +8,9 @@ use Rattle.intake.specs.Answer.{Answer, answer}
 use Rattle.intake.specs.Laws.{accepted}
 use Rattle.judge.specs.Judged.{Judged}
 use Rattle.judge.specs.Fine.{Fine, order_fine}
-use Rattle.judge.specs.Outcome.{passed_means, passing_answered}
+use Rattle.judge.proofs.Outcome.{passed_means, passing_answered}
 use Rattle.finder.specs.Searched.{Searched}
-use Rattle.finder.specs.Outcome.{found_means, found_there, no_order_at_all}
+use Rattle.finder.proofs.Outcome.{found_means, found_there, no_order_at_all}
 
 -- An order that was found, judged with any list lent for the figures that has room for them, is answered 'passed'.
 abbrev pub FoundIsPassed : Type 0

@@ -17,7 +17,7 @@ use Rattle.intake.specs.Words.{rows, table_of}
 use Rattle.intake.specs.Answer.{Answer}
 use Rattle.judge.specs.Judged.{Judged}
 use Rattle.judge.specs.Fine.{Fine, place_of}
-use Rattle.judge.specs.Outcome.{passed_means}
+use Rattle.judge.proofs.Outcome.{passed_means}
 use Rattle.finder.specs.Searched.{Searched}
 use Rattle.promises.specs.Agreement.{found_fine, found_is_passed}
 

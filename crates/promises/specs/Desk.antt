@@ -9,13 +9,14 @@ use Rattle.intake.specs.Answer.{Answer, answer}
 use Rattle.intake.specs.Laws.{acceptable}
 use Rattle.judge.specs.Judged.{Judged}
 use Rattle.finder.specs.Searched.{Searched}
-use Rattle.finder.specs.Outcome.{found_exactly}
+use Rattle.finder.proofs.Outcome.{found_exactly}
 use Rattle.desk.specs.declared.Ledger.{Ledger}
 use Rattle.desk.specs.Ledger.{fresh, held_words}
-use Rattle.desk.specs.Laws.{Fit, is_fit}
-use Rattle.desk.specs.Rows.{held_length, held_count, held_good}
+use Rattle.desk.proofs.Laws.{Fit, is_fit}
+use Rattle.desk.proofs.HeldRows.{held_length, held_count, held_good}
 use Rattle.desk.specs.History.{Entry, Calls}
-use Rattle.desk.specs.Kept.{Kept, after_any_calls}
+use Rattle.desk.specs.Kept.{Kept}
+use Rattle.desk.proofs.Kept.{after_any_calls}
 use Rattle.promises.specs.Agreement.{found_is_passed}
 use Rattle.promises.specs.Demand3.{KeepsFigures, MeetsDeadlines, found_is_kept, found_meets_deadlines}
 

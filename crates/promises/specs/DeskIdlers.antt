@@ -16,8 +16,8 @@ use Rattle.desk.specs.declared.Ledger.{Ledger}
 use Rattle.desk.specs.Ledger.{fresh, unfit, edition_refusal, claim_refusal, withdrawal_refusal, changed}
 use Rattle.desk.specs.Replies.{Claimed, Withdrawn}
 use Rattle.desk.specs.History.{claiming, withdrawing}
-use Rattle.desk.specs.Turns.{ClaimTurn, refused_claim, granted_claim, claim_turn, claim_small, WithdrawalTurn, refused_withdrawal, done_withdrawal, withdrawal_turn, withdrawal_small}
-use Rattle.desk.specs.Outcome.{one_claim, one_withdrawal}
+use Rattle.desk.proofs.Turns.{ClaimTurn, refused_claim, granted_claim, claim_turn, claim_small, WithdrawalTurn, refused_withdrawal, done_withdrawal, withdrawal_turn, withdrawal_small}
+use Rattle.desk.proofs.Outcome.{one_claim, one_withdrawal}
 use Rattle.promises.specs.Reckon.{climb, reckon}
 use Rattle.promises.specs.Worked.{follow}
 use Rattle.promises.specs.LastRoom.{sonar, test, right}

@@ -8,8 +8,8 @@ use Rattle.sums.specs.Columns.{at}
 use Rattle.intake.specs.Answer.{Answer, answer}
 use Rattle.judge.specs.Judged.{Judged}
 use Rattle.finder.specs.Searched.{Searched}
-use Rattle.judge.specs.Outcome.{one_outcome as one_judged}
-use Rattle.finder.specs.Outcome.{one_outcome as one_searched}
+use Rattle.judge.proofs.Outcome.{one_outcome as one_judged}
+use Rattle.finder.proofs.Outcome.{one_outcome as one_searched}
 use Rattle.promises.specs.Cases.{words_of, lent, table_a, table_c, as_written}
 
 -- judging a, c and d of document 01, and finding b

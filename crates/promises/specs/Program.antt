@@ -19,7 +19,7 @@ use Rattle.intake.specs.declared.Refusal.TheVariants.{NoOrder}
 use Rattle.judge.specs.Judged.{order_refusal, Judged}
 use Rattle.finder.specs.Placing.{rising, leads}
 use Rattle.finder.specs.Searched.{Searched}
-use Rattle.finder.specs.Outcome.{found_means}
+use Rattle.finder.proofs.Outcome.{found_means}
 use Rattle.book.specs.Book.{book_of, words_of}
 use Rattle.book.specs.Replies.{book_refusal}
 use Rattle.listing.specs.Text.{decimal, lines, refused_line}

@@ -12,7 +12,7 @@ use Rattle.bus.proofs.Witness.{full_in, burst_legal}
 use Rattle.intake.specs.Words.{table_of}
 use Rattle.intake.specs.Answer.{answer}
 use Rattle.judge.specs.Judged.{Judged}
-use Rattle.judge.specs.Outcome.{passed_means}
+use Rattle.judge.proofs.Outcome.{passed_means}
 use Rattle.promises.specs.Cases.{words_of, lent, table_c, as_written}
 use Rattle.promises.specs.Demand3.{accepted_sane, passed_is_kept}
 

@@ -7,12 +7,12 @@ use Rattle.intake.specs.declared.Reply.{Reply}
 use Rattle.book.specs.Replies.{BookRead, BookWritten}
 use Rattle.book.specs.Outcome.{one_read, one_written}
 use Rattle.judge.specs.Judged.{Judged}
-use Rattle.judge.specs.Outcome.{one_outcome as one_judged}
+use Rattle.judge.proofs.Outcome.{one_outcome as one_judged}
 use Rattle.finder.specs.Searched.{Searched}
-use Rattle.finder.specs.Outcome.{one_outcome as one_searched}
+use Rattle.finder.proofs.Outcome.{one_outcome as one_searched}
 use Rattle.desk.specs.declared.Ledger.{Ledger}
 use Rattle.desk.specs.Replies.{Claimed, Withdrawn}
-use Rattle.desk.specs.Outcome.{one_claim, one_withdrawal}
+use Rattle.desk.proofs.Outcome.{one_claim, one_withdrawal}
 
 -- `telhavina_judge`: for any table, order and lent list, no two replies and no two lists afterwards
 abbrev pub OneJudgeReply : Type 0

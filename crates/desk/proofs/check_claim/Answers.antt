@@ -9,7 +9,7 @@ use Rattle.licence.specs.Laws.{read_good, read_bad}
 use Rattle.intake.specs.Answer.{answer, refused, fine}
 use Rattle.desk.specs.Ledger.{unfit, edition_refusal}
 use Rattle.desk.specs.Replies.{CheckIs}
-use Rattle.desk.specs.Laws.{check_stopped, check_passed, claim_23, claim_1, claim_3, claim_edition, claim_2, claim_none}
+use Rattle.desk.proofs.Laws.{check_stopped, check_passed, claim_23, claim_1, claim_3, claim_edition, claim_2, claim_none}
 use Rattle.desk.proofs.check_claim.Goals as goal
 use Rattle.desk.proofs.check_claim.Goals.{After-index}
 

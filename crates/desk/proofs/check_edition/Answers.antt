@@ -1,5 +1,5 @@
 -- `desk::check_edition` meets its contract. Assumes nothing.
-use Rattle.desk.specs.Laws.{edition_9, edition_10, edition_none}
+use Rattle.desk.proofs.Laws.{edition_9, edition_10, edition_none}
 use Rattle.desk.proofs.check_edition.Goals as goal
 
 pub returns-then-edition-eq-LAST : goal.returns-then-edition-eq-LAST

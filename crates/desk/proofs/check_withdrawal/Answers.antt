@@ -4,7 +4,7 @@ use mathlib.Core.Bool.{false}
 use Rattle.intake.specs.Answer.{fine}
 use Rattle.desk.specs.Ledger.{unfit, edition_refusal}
 use Rattle.desk.specs.Replies.{CheckIs}
-use Rattle.desk.specs.Laws.{check_stopped, check_passed, withdraw_23, withdraw_edition, withdraw_11, withdraw_none}
+use Rattle.desk.proofs.Laws.{check_stopped, check_passed, withdraw_23, withdraw_edition, withdraw_11, withdraw_none}
 use Rattle.desk.proofs.check_withdrawal.Goals as goal
 use Rattle.desk.proofs.check_withdrawal.Goals.{In-Fine}
 

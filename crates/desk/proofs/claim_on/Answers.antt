@@ -9,7 +9,7 @@ use lib.ListN.{length, take}
 use lib.Seq.{length-take-le}
 use Rattle.licence.specs.Limit.{limit}
 use Rattle.intake.specs.Laws.{replied_answered}
-use Rattle.desk.specs.Laws.{check_passed, Claimable, claimable}
+use Rattle.desk.proofs.Laws.{check_passed, Claimable, claimable}
 use Rattle.desk.specs.Ledger.{ledger, Whole, changed, with_row}
 use Rattle.desk.specs.Replies.{decision_answer, Claimed}
 use Rattle.desk.specs.declared.Ledger.{Ledger}

@@ -3,7 +3,7 @@ use native.Mathlib.Omega.{arith}
 use mathlib.Core.Path.{sym, ◌∙◌}
 use Rattle.licence.specs.Limit.{limit}
 use Rattle.licence.specs.Laws.{read_good, read_bad}
-use Rattle.desk.specs.Laws.{unfit_many, unfit_bad, fit}
+use Rattle.desk.proofs.Laws.{unfit_many, unfit_bad, fit}
 use Rattle.desk.proofs.Held.{one_more}
 use Rattle.desk.proofs.unfit.Goals as goal
 

@@ -5,7 +5,7 @@ use Prim.Native.Nat.{◌≤◌}
 use mathlib.Core.Path.{refl}
 use Rattle.licence.specs.Limit.{limit}
 use Rattle.desk.specs.Ledger.{Whole}
-use Rattle.desk.specs.Laws.{check_passed, Withdrawable, withdrawable}
+use Rattle.desk.proofs.Laws.{check_passed, Withdrawable, withdrawable}
 use Rattle.desk.proofs.withdraw_on.Goals as goal
 use Rattle.desk.proofs.withdraw_on.Goals.{In_default, Start}
 

@@ -17,7 +17,8 @@ use Rattle.order.specs.Moving.{passes_moved}
 use Rattle.finder.specs.Placing.{Ending, found, none, rising, unplaced, placing, PassesOver, Test, candidate, Stands, Finds, done, place, stuck}
 use Rattle.finder.specs.Rising.{mem_right, mem_append}
 use Rattle.finder.specs.Leading.{band_rows_elim, unplaced_out, candidate_unplaced}
-use Rattle.finder.specs.Standing.{Standing, standing_none, standing_next, unplaced_of, all_placed}
+use Rattle.finder.specs.Standing.{Standing}
+use Rattle.finder.proofs.Standing.{standing_none, standing_next, unplaced_of, all_placed}
 
 -- what may stand above some rows may stand above more
 abbrev pub Monotone : Test → Type 0

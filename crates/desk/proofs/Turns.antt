@@ -10,7 +10,7 @@ use Rattle.intake.specs.Told.{Numbers, number_has, then_numbers, if_numbers}
 use Rattle.finder.specs.Placing.{Ending, found, none, free, Finds}
 use Rattle.desk.specs.Ledger.{last_edition, unfit, edition_refusal, claim_refusal, withdrawal_refusal, changed, with_row, without_row}
 use Rattle.desk.specs.Replies.{decision_answer, Told, Claimed, Withdrawn, ClaimNumber, WithdrawalNumber}
-use Rattle.desk.specs.Laws.{Claimable, claimable, Withdrawable, withdrawable}
+use Rattle.desk.proofs.Laws.{Claimable, claimable, Withdrawable, withdrawable}
 use Rattle.desk.specs.declared.Ledger.{Ledger}
 use Rattle.desk.specs.declared.Decision.TheVariants.{Granted, Withdrawn as TakenOut}
 

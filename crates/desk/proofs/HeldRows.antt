@@ -12,7 +12,7 @@ use Rattle.intake.specs.Refusals.{table_refusal}
 use Rattle.intake.specs.Answer.{fine}
 use Rattle.intake.specs.Laws.{acceptable}
 use Rattle.desk.specs.Ledger.{Whole, held_words, with_row, row_out}
-use Rattle.desk.specs.Laws.{Fit, Claimable}
+use Rattle.desk.proofs.Laws.{Fit, Claimable}
 use Rattle.desk.specs.declared.Ledger.{Ledger}
 
 -- ---- the first words of a list, and then others

@@ -9,7 +9,7 @@ use Rattle.order.specs.Without.{Without, raise, raise_apart, raise_inside, withd
 use Rattle.order.specs.Orders.{HasOrder}
 use Rattle.intake.specs.Words.{rows, table_of}
 use Rattle.desk.specs.Ledger.{row_out}
-use Rattle.desk.specs.Rows.{out_count, out_row}
+use Rattle.desk.proofs.HeldRows.{out_count, out_row}
 
 -- rows of one band are of one band as rows of other words too, where one row stays one row
 bands_follow : (words others : List ℕ) (i j i' j' : ℕ) → SameRow words i others i' → SameRow words j others j' → bad_field words i ≡ 0 → bad_field words j ≡ 0 → (i ≡ j → i' ≡ j')
