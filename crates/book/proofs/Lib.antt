@@ -1,3 +1,4 @@
--- Laws that the proofs of this crate cite. Assumes nothing.
+-- Laws that the proofs of this crate cite, and the round trip. Assumes nothing.
 mod Room
 mod Stores
+pub mod RoundTrip

@@ -6,4 +6,3 @@ pub mod ListLaws
 pub mod Laws
 pub mod Outcome
 pub mod Read
-pub mod RoundTrip
