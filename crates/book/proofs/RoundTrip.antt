@@ -1,5 +1,4 @@
--- 'What it makes the reader gives back, and the other way round.' The promises come first, their proofs below.
--- Assumes nothing.
+-- The promises of specs/RoundTrip are kept. Assumes nothing.
 use Rattle.std.specs.Prelude.{ℕ, ◌+◌, ◌*◌, ◌^◌, ◌≤◌, ◌<◌, ◌≡◌, refl, length, take}
 use Rattle.std.proofs.Common.{arith, sym, ap₂, subst, ◌∙◌, lit<}
 use Rattle.std.proofs.Math.Path.{ap}
@@ -23,28 +22,7 @@ use Rattle.book.specs.ListLaws.{take_laid, part_length, part_below, part_join, e
 use Rattle.book.specs.Laws.{offsets_length, book_length, words_length, words_rows, words_shape, writable, write_none, IsBook, is_book, book_none, read_none, offset_right, offset_is}
 use Rattle.book.specs.Outcome.{write_by}
 use Rattle.book.specs.Read.{words_read}
-
--- What was written is read back word for word, into any list that has room.
-abbrev pub ReadBack : Type 0
-ReadBack = (words before after : List ℕ) (k : ℕ) → Below 4294967296 words → BookWritten words before after (answer 104 k 0)
-    → (list list' : List ℕ) (a : Answer) → length words ≤ length list → BookRead (take k after) list list' a
-    → (a ≡ answer 103 (rows words) 0) × (list' ≡ laid_on words list)
-
--- What was read is written again byte for byte, into any list that has room.
-abbrev pub WrittenAgain : Type 0
-WrittenAgain = (book before after : List ℕ) (n : ℕ) → Below 256 book → BookRead book before after (answer 103 n 0)
-    → (list list' : List ℕ) (a : Answer) → length book ≤ length list → BookWritten (take (6 * n) after) list list' a
-    → (a ≡ answer 104 (length book) 0) × (list' ≡ laid_on book list)
-
--- A book is just what is made of words that have the shape of a table; those that fit are found in it.
-abbrev pub BooksExactly : Type 0
-BooksExactly = ((words : List ℕ) → shape_refusal words ≡ fine → book_refusal (book_of words) ≡ fine)
-    × ((book : List ℕ) → Below 256 book → book_refusal book ≡ fine → (words : List ℕ) × (shape_refusal words ≡ fine) × Below 4294967296 words × (book ≡ book_of words))
-
--- Where the contents say that a row starts, its six words stand.
-abbrev pub RowsThere : Type 0
-RowsThere = (words : List ℕ) → shape_refusal words ≡ fine → (i f : ℕ) → i < rows words → f < 6
-    → part (book_of words) (offset_at (book_of words) i + 4 * f) 4 ≡ low 4 (at words (6 * i + f))
+use Rattle.book.specs.RoundTrip.{BooksExactly, ReadBack, RowsThere, WrittenAgain}
 
 -- ---- a book of words, read
 

@@ -5,4 +5,5 @@ pub mod ByteLaws
 pub mod ListLaws
 pub mod Laws
 pub mod Outcome
+pub mod RoundTrip
 pub mod Read

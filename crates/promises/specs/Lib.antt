@@ -4,7 +4,6 @@ pub mod Reckon
 pub mod Worked
 pub mod Cases
 pub mod Idlers
-pub mod Shown
 pub mod Priority
 pub mod Program
 pub mod Desk

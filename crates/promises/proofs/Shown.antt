@@ -13,7 +13,8 @@ use Rattle.intake.specs.Words.{table_of}
 use Rattle.intake.specs.Answer.{answer}
 use Rattle.judge.specs.Judged.{Judged}
 use Rattle.judge.proofs.Outcome.{passed_means}
-use Rattle.promises.specs.Cases.{words_of, lent, table_c, as_written}
+use Rattle.promises.specs.Cases.{words_of, lent, table_c}
+use Rattle.promises.proofs.Cases.{as_written}
 use Rattle.promises.specs.Demand3.{accepted_sane, passed_is_kept}
 
 abbrev words : List ℕ
