@@ -14,7 +14,7 @@ fn main() {
     println!("cargo::rerun-if-changed={}", archive.display());
     if !archive.is_file() {
         println!(
-            "cargo::error={} is missing: run `rt staticlib telhavina` at the project's root \
+            "cargo::error={} is missing: run `rt lib` in crates/telhavina \
              first, or set {LIB_DIR} to the directory that has it",
             archive.display()
         );
@@ -23,10 +23,10 @@ fn main() {
     println!("cargo::rustc-link-lib=static=telhavina");
 }
 
-/// The directory of the archive: target/staticlib at the project's root, unless another is named.
+/// The directory of the archive: crates/telhavina/out at the project's root, unless another is named.
 fn lib_dir() -> PathBuf {
     match env::var_os(LIB_DIR) {
         Some(dir) => PathBuf::from(dir),
-        None => Path::new(env!("CARGO_MANIFEST_DIR")).join("../../target/staticlib"),
+        None => Path::new(env!("CARGO_MANIFEST_DIR")).join("../../crates/telhavina/out"),
     }
 }

@@ -108,8 +108,8 @@
 //!
 //! # Building
 //!
-//! The build links `libtelhavina.a`, made by `rt staticlib telhavina` at the project's root and
-//! looked for in `target/staticlib` there, or in the directory whose absolute path is in the
+//! The build links `libtelhavina.a`, made by `rt lib` in the project's `crates/telhavina` and
+//! looked for in `crates/telhavina/out` there, or in the directory whose absolute path is in the
 //! environment variable `TELHAVINA_LIB_DIR`.
 
 mod desk;

@@ -75,15 +75,15 @@ fn start(input: impl Into<Stdio>) -> Child {
     command.spawn().expect("the program starts")
 }
 
-/// The path of the program: target/bin at the project's root has it, unless another is named.
+/// The path of the program: crates/book_main/out at the project's root has it, unless another is named.
 fn program() -> PathBuf {
     let path = match env::var_os(BOOK_MAIN) {
         Some(path) => PathBuf::from(path),
-        None => Path::new(env!("CARGO_MANIFEST_DIR")).join("../../target/bin/book_main"),
+        None => Path::new(env!("CARGO_MANIFEST_DIR")).join("../../crates/book_main/out/book_main"),
     };
     assert!(
         path.is_file(),
-        "{} is missing: run `rt check book_main` at the project's root first, or set {BOOK_MAIN} \
+        "{} is missing: run `rt run` in crates/book_main first, or set {BOOK_MAIN} \
          to the path of the program",
         path.display()
     );
