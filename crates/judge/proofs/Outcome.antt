@@ -15,7 +15,7 @@ use Rattle.intake.specs.Laws.{replied_one}
 use Rattle.intake.specs.Told.{told_refusal, told_refusal_lem, not_refusal, Small, then_numbers, if_numbers, at_numbers, wider_small, number_has, told_one, replied_fine, table_small}
 use Rattle.judge.specs.declared.Judgement.{Judgement}
 use Rattle.judge.specs.declared.Judgement.TheVariants.{Passed, Late, Refused}
-use Rattle.judge.specs.Fine.{fine_order, some_bits, entry_row, place_of}
+use Rattle.judge.specs.Fine.{fine_order, some_bits, entry_row, place_of_lem}
 use Rattle.judge.specs.Outcome.{OneJudgement, OneOutcome, PassedMeans, PassingAnswered, RefusedSmall, ZeroExactlyLate}
 
 -- ---- an order that is answered
@@ -77,7 +77,7 @@ module _ (τ : Table) (order : List ℕ) where
 
 pub one_outcome : OneOutcome
 one_outcome words order before after after' a a' j j' =
-    replied_one j j' (λ e x y. (one_verdict (table_of words) order x.verdict y.verdict, one_list (table_of words) order (place_of (fine_order words order (length before) e)) x.written y.written))
+    replied_one j j' (λ e x y. (one_verdict (table_of words) order x.verdict y.verdict, one_list (table_of words) order (place_of_lem (fine_order words order (length before) e)) x.written y.written))
 
 -- each case of the enum has an answer of its own
 told : Answer → Judgement

@@ -51,8 +51,8 @@ module _ {words o : List ℕ} {room : ℕ} (known : Fine words o room) where
   entry_row p l = known.order.range (at o p) (mem_get_or o p (omega arith))
 
   -- every row stands at a place
-  pub place_of : (k : ℕ) → k < rows words → (p : ℕ) × (p < rows words) × (at o p ≡ k)
-  place_of k l =
+  pub place_of_lem : (k : ℕ) → k < rows words → (p : ℕ) × (p < rows words) × (at o p ≡ k)
+  place_of_lem k l =
       let (p, inside, stands) = mem_at o k (known.order.every k l) in
       (p, omega arith, stands)
 

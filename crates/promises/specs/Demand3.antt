@@ -16,7 +16,7 @@ use Rattle.bus.proofs.Kept.{kept}
 use Rattle.intake.specs.Words.{rows, table_of}
 use Rattle.intake.specs.Answer.{Answer}
 use Rattle.judge.specs.Judged.{Judged}
-use Rattle.judge.specs.Fine.{Fine, place_of}
+use Rattle.judge.specs.Fine.{Fine, place_of_lem}
 use Rattle.judge.proofs.Outcome.{passed_means}
 use Rattle.finder.specs.Searched.{Searched}
 use Rattle.promises.specs.Agreement.{found_fine, found_is_passed}
@@ -72,7 +72,7 @@ module _ {words order : List ℕ} {room : ℕ} (known : Fine words order room) w
   passing_meets : AllPass (table_of words) order → MeetsDeadlines words order
   passing_meets passing run legal q f m long =
       let ok = legal.licensed q f m in
-      let (p, inside, stands) = place_of known f.row ok.row_is in
+      let (p, inside, stands) = place_of_lem known f.row ok.row_is in
       let (R, figure) = passes_figure (table_of words) (own (table_of words) order p) (above (table_of words) order p) (below (table_of words) order p) (passing p (omega (arith, known.count))) in
       let allowed = min_le (max_over (rows words) (own (table_of words) order p) (table_of words).E) (own (table_of words) order p) (table_of words).E (rows words) f.row ok.row_is (own_row p f.row stands) in
       let (e, soon, there) = row_kept run legal p R inside figure q f m stands (omega (arith, figure.within)) in
@@ -82,7 +82,7 @@ module _ {words order : List ℕ} {room : ℕ} (known : Fine words order room) w
 pub passed_is_kept : PassedIsKept
 passed_is_kept words order before after a j is_100 run legal q f m long =
     let x = passed_means words order before after a j is_100 in
-    let (p, inside, stands) = place_of x.known f.row (legal.licensed q f m).row_is in
+    let (p, inside, stands) = place_of_lem x.known f.row (legal.licensed q f m).row_is in
     row_kept x.known run legal p (at after f.row) inside (subst (λ (k : ℕ). FigureAt (table_of words) order p (at after k)) stands (x.figures p inside)) q f m stands long
 
 pub found_is_kept : FoundIsKept
