@@ -14,4 +14,4 @@ back : (c : After-slice_known-2-1) → let a = c.args in take a.end a.words.now 
 back c = let a = c.args in laid_over a.words.now a.end a.row.now c.lay.new.to 6 c.lay.ensures
 
 pub returns : goal.returns
-returns c = let s = c in back (goal.at.returns c).After-slice_known-2-1 ∙ ap (λ (r : List ℕ). take s.args.end s.args.words.now ++ r ++ drop (s.args.end + 6) s.args.words.now) (take_all 6 s.args.row.now (omega (arith, s.requires.0)))
+returns c = back (goal.at.returns c).After-slice_known-2-1 ∙ ap (λ (r : List ℕ). take c.args.end c.args.words.now ++ r ++ drop (c.args.end + 6) c.args.words.now) (take_all 6 c.args.row.now (omega (arith, c.requires.0)))

@@ -13,4 +13,4 @@ back : (c : After-slice_known-2-1) → let a = c.args in take a.gap a.words.now 
 back c = let a = c.args in laid_over a.words.now a.gap (lent a.old.now (a.gap + 6)) c.lay.new.to (a.end - a.gap - 6) c.lay.ensures
 
 pub returns : goal.returns
-returns c = let s = c in back (goal.at.returns c).After-slice_known-2-1 ∙ gap_closed s.args.old.now s.args.words.now s.args.gap s.args.end s.requires.0 s.requires.1 s.requires.2
+returns c = back (goal.at.returns c).After-slice_known-2-1 ∙ gap_closed c.args.old.now c.args.words.now c.args.gap c.args.end c.requires.0 c.requires.1 c.requires.2

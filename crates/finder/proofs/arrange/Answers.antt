@@ -10,8 +10,7 @@ use Rattle.finder.proofs.arrange.Goals as goal
 
 pub align-requires : goal.align-requires
 align-requires c =
-    let s = c in
     let rows = c.line_up.new.made in
-    let kept : length rows ≡ length s.args.made.now = search rules in
-    let long : s.args.n ≤ length rows = omega (arith, s.requires.1) in
-    record { columns = held_room s.requires.0; room = s.requires.2; long_order = long; range = lined_range s.args.n s.args.key.now rows long c.line_up.ensures }
+    let kept : length rows ≡ length c.args.made.now = search rules in
+    let long : c.args.n ≤ length rows = omega (arith, c.requires.1) in
+    record { columns = held_room c.requires.0; room = c.requires.2; long_order = long; range = lined_range c.args.n c.args.key.now rows long c.line_up.ensures }

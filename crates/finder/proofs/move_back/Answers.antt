@@ -7,6 +7,5 @@ use Rattle.finder.proofs.move_back.Goals as goal
 pub returns : goal.returns
 returns c =
     let l = c.loop-k in
-    let s = c in
-    let e : l.k ≡ s.args.top = omega (arith, l.invariant.1) in
-    shifted_all s.args.s s.args.top s.args.list.now l.list s.requires.0 s.requires.1 (rw e at l.invariant.2)
+    let e : l.k ≡ c.args.top = omega (arith, l.invariant.1) in
+    shifted_all c.args.s c.args.top c.args.list.now l.list c.requires.0 c.requires.1 (rw e at l.invariant.2)

@@ -21,8 +21,7 @@ Stands c = let a = c.args in Behind a.made.now a.end (own_of a.key.now (at a.key
 here : (c : After-shared_slice_known-in-loop-i-1) → let key = c.args.key.now in let l = c.loop-i in
     at key l.i ≡ at key c.args.k → (l.next < c.args.n) × Stands c (set l.made l.next l.i) (l.next + 1) (l.i + 1)
 here c e =
-    let s = c in
-    behind_here s.args.made.now s.args.end _ s.args.n s.requires.room s.requires.long_made (omega arith) (eq-eqb _ _ e) c.loop-i.invariant.2
+    behind_here c.args.made.now c.args.end _ c.args.n c.requires.room c.requires.long_made (omega arith) (eq-eqb _ _ e) c.loop-i.invariant.2
 
 pub loop-i-init : goal.loop-i-init
 unfolding limit

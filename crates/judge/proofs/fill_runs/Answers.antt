@@ -14,12 +14,11 @@ loop-e-init c =
 
 pub loop-e-preserved : goal.loop-e-preserved
 loop-e-preserved c =
-    let s = c in
     let l = c.loop-e in
     let starts = c.run_start-s.ensures in
-    let join = max_runs c.run_start-s.result l.e s.args.n (at s.args.c.now) (omega (arith, starts.some)) l.invariant.0 in (
+    let join = max_runs c.run_start-s.result l.e c.args.n (at c.args.c.now) (omega (arith, starts.some)) l.invariant.0 in (
       omega (arith, starts.some, l.invariant.0),
-      filled_next s.requires.0 l.invariant.0 l.invariant.1 starts l.invariant.4 c.judge_run.result l.invariant.2 c.judge_run.ensures c.shown-figure.ensures c.put_for.ensures,
+      filled_next c.requires.0 l.invariant.0 l.invariant.1 starts l.invariant.4 c.judge_run.result l.invariant.2 c.judge_run.ensures c.shown-figure.ensures c.put_for.ensures,
       omega (arith, c.longest_of-below.ensures.is, l.invariant.2, join),
       c.longest_of-below.ensures.short,
       λ i. starts.first,

@@ -26,12 +26,12 @@ range c = in_range c.requires.0 c.if-order-n.false (none_lowest _ _ (entries c))
 queues : (c : In_default-split) → let a = c.args in lowest a.n (resumes (at a.key.now) a.order.now) ≡ nowhere
 queues c = sym c.first_split-split.ensures ∙ ap place_of c.in_default-split.is
 
-sound : (c : In_default-split) → let s = c in lowest s.args.n (bad_entry s.args.n s.args.order.now) ≡ nowhere → Sound s.args.n (sheet s.args.n s.args.c.now s.args.t.now s.args.j.now s.args.e.now s.args.key.now) s.args.order.now
+sound : (c : In_default-split) → lowest c.args.n (bad_entry c.args.n c.args.order.now) ≡ nowhere → Sound c.args.n (sheet c.args.n c.args.c.now c.args.t.now c.args.j.now c.args.e.now c.args.key.now) c.args.order.now
 sound c fine_entries =
     let count = c.if-order-n.false in
     record { count = count; entries = none_lowest _ _ fine_entries; together = together_of (sheet c.args.n c.args.c.now c.args.t.now c.args.j.now c.args.e.now c.args.key.now) _ count (none_lowest _ _ (queues c)) }
 
-unrefused : (c : In_default-split) → let s = c in lowest s.args.n (bad_entry s.args.n s.args.order.now) ≡ nowhere → order_refusal (sheet s.args.n s.args.c.now s.args.t.now s.args.j.now s.args.e.now s.args.key.now) s.args.order.now ≡ fine
+unrefused : (c : In_default-split) → lowest c.args.n (bad_entry c.args.n c.args.order.now) ≡ nowhere → order_refusal (sheet c.args.n c.args.c.now c.args.t.now c.args.j.now c.args.e.now c.args.key.now) c.args.order.now ≡ fine
 unrefused c fine_entries = refuse_none _ _ c.if-order-n.false fine_entries (queues c)
 
 pub returns-then-order-n : goal.returns-then-order-n

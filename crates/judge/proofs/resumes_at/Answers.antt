@@ -9,14 +9,12 @@ use Rattle.judge.proofs.resumes_at.Goals as goal
 
 pub returns-then-used-index-ne1 : goal.returns-then-used-index-ne1
 returns-then-used-index-ne1 c =
-    let s = c in
     let k = c.key_at-k.ensures in
-    sym (resumes_new _ _ _ _ s.args.p _ k.0 k.1 s.requires.2 (λ q. c.if-used-index-ne1.true (ap (at s.args.used.now) c.index.ensures ∙ q)))
+    sym (resumes_new _ _ _ _ c.args.p _ k.0 k.1 c.requires.2 (λ q. c.if-used-index-ne1.true (ap (at c.args.used.now) c.index.ensures ∙ q)))
 
 pub returns : goal.returns
 returns c =
-    let s = c in
     let k = c.key_at-k in
-    let last = c.key_at.ensures.0 ∙ ap (λ (x : ℕ). at s.args.key.now (at s.args.order.now x)) c.place_before.ensures in
-    let used = ap (at s.args.used.now) (sym c.index.ensures) ∙ c.if-used-index-ne1.false in
-    ap (λ (x : ℕ). not (eqb x k.result)) last ∙ sym (resumes_used _ _ _ _ s.args.p _ k.ensures.0 k.ensures.1 s.requires.2 used)
+    let last = c.key_at.ensures.0 ∙ ap (λ (x : ℕ). at c.args.key.now (at c.args.order.now x)) c.place_before.ensures in
+    let used = ap (at c.args.used.now) (sym c.index.ensures) ∙ c.if-used-index-ne1.false in
+    ap (λ (x : ℕ). not (eqb x k.result)) last ∙ sym (resumes_used _ _ _ _ c.args.p _ k.ensures.0 k.ensures.1 c.requires.2 used)

@@ -11,8 +11,7 @@ loop-p-init c = let a = c.args in (omega arith, omega arith, omega (arith, run_n
 
 pub loop-p-preserved : goal.loop-p-preserved
 loop-p-preserved c =
-    let s = c in
     let p = c.loop-p.p in
-    let next = run_next max 0 refl s.args.s s.args.e (at s.args.c.now) p (omega arith) (omega arith) in
-    let most = s.requires.most p (omega arith) (omega arith) in
+    let next = run_next max 0 refl c.args.s c.args.e (at c.args.c.now) p (omega arith) (omega arith) in
+    let most = c.requires.most p (omega arith) (omega arith) in
     (omega arith, omega arith, omega (arith, c.larger-longest.ensures), omega (arith, c.larger-longest.ensures))

@@ -14,11 +14,10 @@ loop-p-init c = (omega arith, omega arith, numbers_none _ _ _ _)
 pub overflow_add-sum : goal.overflow_add-sum
 unfolding limit
 overflow_add-sum c =
-    let s = c in
     let l = c.loop-p in
-    let m = s.requires.0.c_most in
-    let few = s.requires.0.few in
-    omega (arith, l.invariant.2.sum, sum_bound l.p (run s.args.s s.args.e) (at s.args.c.now) 4096 (λ k b. m k (omega arith)), m l.p (omega arith))
+    let m = c.requires.0.c_most in
+    let few = c.requires.0.few in
+    omega (arith, l.invariant.2.sum, sum_bound l.p (run c.args.s c.args.e) (at c.args.c.now) 4096 (λ k b. m k (omega arith)), m l.p (omega arith))
 
 pub loop-p-preserved : goal.loop-p-preserved
 loop-p-preserved c = (

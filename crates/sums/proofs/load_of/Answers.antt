@@ -11,14 +11,12 @@ use Rattle.sums.proofs.load_of.Goals.{After-wide-2}
 -- the product is C times the rounded-up quotient
 product : (c : After-wide-2) → let a = c.args in c.wide.result * c.wide-2.result ≡ a.c * ceil (a.w + a.j + 1) a.t
 product c =
-    let s = c in
-    ap₂ ◌*◌ c.wide.ensures (c.wide-2.ensures ∙ sym (ceil_next (s.args.w + s.args.j) s.args.t s.requires.1))
+    ap₂ ◌*◌ c.wide.ensures (c.wide-2.ensures ∙ sym (ceil_next (c.args.w + c.args.j) c.args.t c.requires.1))
 
 bound : (c : After-wide-2) → c.wide.result * c.wide-2.result ≤ 8192004096
 bound c =
-    let s = c in
-    let q : ceil (s.args.w + s.args.j + 1) s.args.t ≤ 2000001 = le_trans (ceil_bound _ _ s.requires.1) (omega arith) in
-    rw (product c) (mul-le-mul s.requires.0 q)
+    let q : ceil (c.args.w + c.args.j + 1) c.args.t ≤ 2000001 = le_trans (ceil_bound _ _ c.requires.1) (omega arith) in
+    rw (product c) (mul-le-mul c.requires.0 q)
 
 pub returns : goal.returns
 returns c = (product (goal.at.returns c).After-wide-2, bound (goal.at.returns c).After-wide-2)

@@ -66,6 +66,15 @@ pub fn summed(mut bytes: Vec<u8>) -> Vec<u8> {
     bytes
 }
 
+/// A link in the ledger's place goes when the test ends: the gate refuses links anywhere in the project.
+impl Drop for Desk {
+    fn drop(&mut self) {
+        if fs::symlink_metadata(&self.path).is_ok_and(|found| found.is_symlink()) {
+            let _ = fs::remove_file(&self.path);
+        }
+    }
+}
+
 impl Desk {
     /// A directory of this name with nothing in it.
     pub fn nothing(name: &str) -> Desk {
