@@ -1,4 +1,4 @@
--- Laws that the proofs of this crate cite. Assumes nothing.
+-- Laws that the proofs of this crate and those above cite, and what is promised in specs/. Assumes nothing.
 mod Rows
 mod Granting
 mod Closing

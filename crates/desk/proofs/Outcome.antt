@@ -1,5 +1,4 @@
 -- The promises of specs/Outcome are kept. Assumes nothing.
--- Assumes nothing.
 use Rattle.std.specs.Prelude.{ℕ, ◌+◌, ◌*◌, ◌≤◌, ◌≡◌, refl, ◌⊎◌, ◌↔◌, cond, List, [], ◌++◌, length, eqb}
 use Rattle.std.proofs.Common.{arith, ap, ap₂, subst, ◌∙◌, inl, inr, append-nil, drop_of_length-le, take_at, lit≤}
 use Rattle.licence.specs.Laws.{row_allowed}

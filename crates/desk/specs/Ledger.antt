@@ -1,5 +1,5 @@
 -- The ledger of granted rows, the checks of a claim and of a withdrawal in the order of request L4, and the ledger after a change.
--- Definitions only: what follows from them is in Laws.
+-- Definitions only: what follows from them is in proofs/Laws.
 -- Assumes nothing.
 use Rattle.std.specs.Prelude.{ℕ, ◌+◌, ◌*◌, ◌≡◌, Bool, not, ◌||◌, List, ◌++◌, length, take, drop, replicate, eqb, leb, ltb}
 use Rattle.sums.specs.Masks.{any_below}

@@ -1,4 +1,4 @@
--- Laws that the proofs of this crate cite. Assumes nothing.
+-- Laws that the proofs of this crate and those above cite. Assumes nothing.
 mod Adding
 pub mod Loads
 pub mod Start
