@@ -1,8 +1,6 @@
 -- Laws that the proofs of this crate and those above cite, and what is promised in specs/. Assumes nothing.
 mod Rows
 mod Granting
-mod Closing
-mod Held
 pub mod Laws
 pub mod Turns
 pub mod Outcome

@@ -14,10 +14,6 @@ module _ (w : List ℕ) (at : ℕ) where
   lent_all : lent ≡ drop at w
   lent_all = take_all (length w - at) (drop at w) (omega (arith, length-drop at w))
 
-  -- it has room for what the list has room for
-  pub lent_room : (m : ℕ) → at + m ≤ length w → m ≤ length lent
-  lent_room m h = rw lent_all (omega (arith, length-drop at w))
-
   -- once its first m words are laid anew, the list has them from place `at` on
   pub laid_over : (s part : List ℕ) (m : ℕ) → part ≡ take m s ++ drop m lent → take at w ++ (part ++ drop (length w - at) (drop at w)) ≡ paste w at s m
   laid_over s part m e =

@@ -2,7 +2,7 @@
 use Prim.Native.Nat.{ℕ, ◌+◌, ◌-◌, ◌≤◌, ◌<◌}
 use native.Mathlib.Decide.{dec_lt, ℕ_discrete}
 use native.Mathlib.Omega.{arith}
-use mathlib.Core.Path.{◌≡◌, refl, sym, ap, ◌∙◌}
+use mathlib.Core.Path.{◌≡◌, sym, ap, ◌∙◌}
 use mathlib.Core.List.{List}
 use lib.ListN.{length, set, length-set}
 use lib.Seq.{get_or-set_same, get_or-set_other}
@@ -16,24 +16,6 @@ pub record Shifted (s k : ℕ) (list list' : List ℕ) : Type 0 where
   pub closer : (p : ℕ) → s ≤ p → p + 1 < k → at list' p ≡ at list (p + 1)
   pub before : (p : ℕ) → p < s → at list' p ≡ at list p
   pub behind : (p : ℕ) → k ≤ p + 1 → at list' p ≡ at list p
-
-pub shifted_none : (s : ℕ) (list : List ℕ) → Shifted s (s + 1) list list
-shifted_none s list = record { long = refl; closer = λ p h l. absurd (omega arith); before = λ p l. refl; behind = λ p l. refl }
-
-pub shifted_next : (s k : ℕ) (list list' : List ℕ) → s < k → k < length list → Shifted s k list list' → Shifted s (k + 1) list (set list' (k - 1) (at list' k))
-shifted_next s k list list' sk inside h =
-    record {
-      long = length-set list' (k - 1) (at list' k) ∙ h.long;
-      closer = λ p a b. go p a b (ℕ_discrete p (k - 1));
-      before = λ p a. get_or-set_other list' (k - 1) p (at list' k) 0 (λ q. omega arith) ∙ h.before p a;
-      behind = λ p a. get_or-set_other list' (k - 1) p (at list' k) 0 (λ q. omega arith) ∙ h.behind p (omega arith);
-    }
-  where
-    go : (p : ℕ) → s ≤ p → p + 1 < k + 1 → Dec (p ≡ k - 1) → at (set list' (k - 1) (at list' k)) p ≡ at list (p + 1)
-    go p a b (yes q) =
-        ap (at (set list' (k - 1) (at list' k))) q
-        ∙ (get_or-set_same list' (k - 1) (at list' k) 0 (omega (arith, h.long)) ∙ (h.behind k (omega arith) ∙ ap (at list) (omega arith)))
-    go p a b (no q) = get_or-set_other list' (k - 1) p (at list' k) 0 q ∙ h.closer p a (omega arith)
 
 pub shifted_all : (s top : ℕ) (list list' : List ℕ) → s < top → top ≤ length list → Shifted s top list list' → Turned s (s + 1) top list (set list' (top - 1) (at list s))
 shifted_all s top list list' st inside h = record { long = length-set list' (top - 1) (at list s) ∙ h.long; moved = λ p. go p (ℕ_discrete p (top - 1)) (dec_lt p s) (dec_lt p top) }

@@ -3,7 +3,7 @@ use Prim.Native.Nat.{ℕ, ◌+◌, ◌<◌}
 use native.Mathlib.Omega.{arith}
 use mathlib.Core.Path.{◌≡◌}
 use mathlib.Core.List.{List}
-use lib.ListN.{length, set, length-set}
+use lib.ListN.{set}
 use borrow.Author.Count.{below_more}
 use Rattle.sums.specs.ColumnLaws.{set_below}
 use Rattle.licence.specs.Row.{bad_field}
@@ -11,35 +11,10 @@ use Rattle.intake.specs.Words.{table_of}
 use Rattle.order.specs.Sheet.{Room}
 use Rattle.intake.specs.Holds.{Holds}
 
--- the columns are as long as they were
-pub record Kept (c₀ t₀ j₀ e₀ key₀ c t j e key : List ℕ) : Type 0 where
-  pub same_c : length c ≡ length c₀
-  pub same_t : length t ≡ length t₀
-  pub same_j : length j ≡ length j₀
-  pub same_e : length e ≡ length e₀
-  pub same_key : length key ≡ length key₀
-
-pub kept_next : {c₀ t₀ j₀ e₀ key₀ c t j e key : List ℕ} (i vc vt vj ve vk : ℕ) → Kept c₀ t₀ j₀ e₀ key₀ c t j e key → Kept c₀ t₀ j₀ e₀ key₀ (set c i vc) (set t i vt) (set j i vj) (set e i ve) (set key i vk)
-kept_next i vc vt vj ve vk h =
-    record {
-      same_c = simp length-set h.same_c;
-      same_t = simp length-set h.same_t;
-      same_j = simp length-set h.same_j;
-      same_e = simp length-set h.same_e;
-      same_key = simp length-set h.same_key;
-    }
-
 -- the first i rows can be read, and the columns hold them
 pub record Progress (words : List ℕ) (i : ℕ) (c t j e key : List ℕ) : Type 0 where
   pub good : (k : ℕ) → k < i → bad_field words k ≡ 0
   pub holds : Holds (table_of words) i c t j e key
-
-pub progress_none : (words c t j e key : List ℕ) → Progress words 0 c t j e key
-progress_none words c t j e key =
-    record {
-      good = λ k l. absurd (omega arith);
-      holds = record { is_C = λ k l. absurd (omega arith); is_T = λ k l. absurd (omega arith); is_J = λ k l. absurd (omega arith); is_E = λ k l. absurd (omega arith); is_key = λ k l. absurd (omega arith) };
-    }
 
 pub progress_next : (words : List ℕ) (i : ℕ) {c t j e key : List ℕ} (vc vt vj ve vk : ℕ) → Room (i + 1) c t j e key → bad_field words i ≡ 0
     → vc ≡ (table_of words).C i → vt ≡ (table_of words).T i → vj ≡ (table_of words).J i → ve ≡ (table_of words).E i → vk ≡ (table_of words).key i

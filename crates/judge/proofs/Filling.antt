@@ -1,13 +1,12 @@
 -- The walk that writes what stands for each row: the columns along the order, one run more in the lent list, and the list when all are judged.
 -- Assumes nothing.
-use Prim.Native.Nat.{ℕ, ◌+◌, ◌-◌, ◌≤◌, ◌<◌}
+use Prim.Native.Nat.{ℕ, ◌-◌, ◌≤◌, ◌<◌}
 use native.Mathlib.Nat.{le_refl}
-use native.Mathlib.Decide.{dec_lt, ℕ_discrete}
+use native.Mathlib.Decide.{dec_lt}
 use native.Mathlib.Omega.{arith}
-use mathlib.Core.Path.{◌≡◌, refl, sym, ap, subst, ◌∙◌}
+use mathlib.Core.Path.{◌≡◌, refl, sym, subst, ◌∙◌}
 use mathlib.Core.List.{List}
-use lib.ListN.{length, set, length-set}
-use lib.Seq.{get_or-set_same, get_or-set_other}
+use lib.ListN.{length}
 use Rattle.sums.specs.Masks.{run, None}
 use Rattle.sums.specs.Sums.{max_over}
 use Rattle.sums.specs.Columns.{at}
@@ -51,25 +50,6 @@ module _ {n : ℕ} {c t j e key order : List ℕ} (held : Held n c t j e key) (s
           beyond = λ i l. f.beyond i (omega arith);
           figures = λ p l. shown_there (sheet n c t j e key) order sound along.along_c along.along_t along.along_j along.along_e along.along_key (f.shown p (omega arith) l);
         }
-
--- ---- one place more
-
-module _ {order before : List ℕ} {s R : ℕ} where
-  pub put_none : PutFor order s s R before before
-  put_none = record { same_length = refl; put = λ p l h. absurd (omega arith); kept = λ i h. refl }
-
-  pub put_next : {after : List ℕ} (p m : ℕ) → s ≤ p → m ≡ at order p → m < length before → PutFor order s p R before after → PutFor order s (p + 1) R before (set after m R)
-  put_next {after} p m l e b h =
-      record {
-        same_length = simp length-set h.same_length;
-        put = λ q i k. go q i (ℕ_discrete (at order q) m) (dec_lt q p) k;
-        kept = λ i k. get_or-set_other after m i R 0 (λ z. k p l (omega arith) (sym (z ∙ e))) ∙ h.kept i (λ q f t. k q f (omega arith));
-      }
-    where
-      go : (q : ℕ) → s ≤ q → Dec (at order q ≡ m) → Dec (q < p) → q < p + 1 → at (set after m R) (at order q) ≡ R
-      go q i (yes z) d k = ap (at (set after m R)) z ∙ get_or-set_same after m R 0 (omega (arith, h.same_length))
-      go q i (no z) (yes d) k = get_or-set_other after m (at order q) R 0 z ∙ h.put q i d
-      go q i (no z) (no d) k = absurd (z (ap (at order) (omega arith) ∙ sym e))
 
 -- ---- one run more
 

@@ -4,7 +4,7 @@ use mathlib.Core.Path.{sym, ◌∙◌}
 use Rattle.licence.specs.Limit.{limit}
 use Rattle.licence.specs.Laws.{read_good, read_bad}
 use Rattle.desk.proofs.Laws.{unfit_many, unfit_bad, fit}
-use Rattle.desk.proofs.Held.{one_more}
+use borrow.Author.Count.{below_more}
 use Rattle.desk.proofs.unfit.Goals as goal
 
 pub returns-then-n-gt-LIMIT : goal.returns-then-n-gt-LIMIT
@@ -23,7 +23,7 @@ returns-in_default c =
 pub loop-i-preserved : goal.loop-i-preserved
 loop-i-preserved c =
     let l = c.loop-i in
-    (omega (arith, c.loop-i-test.true), one_more _ l.i l.invariant.1 (read_good _ l.i (sym c.read_row.ensures ∙ c.in-Good.is)).0)
+    (omega (arith, c.loop-i-test.true), below_more _ l.i l.invariant.1 (read_good _ l.i (sym c.read_row.ensures ∙ c.in-Good.is)).0)
 
 pub returns : goal.returns
 unfolding limit

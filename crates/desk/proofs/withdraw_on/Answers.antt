@@ -33,7 +33,7 @@ close_gap-requires c =
 
 pub overflow_add-next : goal.overflow_add-next
 unfolding limit
-overflow_add-next c = omega (arith, c.struct_known-1.given, (known (goal.at.overflow_add-next c).In_default).edition_open.not_last)
+overflow_add-next c = omega (arith, (known (goal.at.overflow_add-next c).In_default).edition_open.not_last)
 
 pub overflow_sub-result : goal.overflow_sub-result
 unfolding limit

@@ -33,7 +33,7 @@ first c fresh = rw (leads_here c, ne_eqb _ 1 fresh) tt
 
 pub loop-k-init : goal.loop-k-init
 unfolding limit
-loop-k-init c = let few = c.requires.0 in (omega arith, marked_none _ (65 + limit) _ (omega arith), refl, refl, lined_none _ _ _)
+loop-k-init c = let few = c.requires.0 in (omega arith, marked_none _ (65 + limit) _ (omega arith), refl, lined_none _ _ _)
 
 pub put_band-end-requires : goal.put_band-end-requires
 put_band-end-requires c =
@@ -44,8 +44,8 @@ put_band-end-requires c =
       long_key = p.1.long_key;
       inside = omega arith;
       first = before_first c.args.n c.args.key.now l.k (first (goal.at.put_band-end-requires c).After-index-band c.if-seen-ne1.true);
-      room = lined_room c.args.n c.args.key.now l.k (omega arith) (first (goal.at.put_band-end-requires c).After-index-band c.if-seen-ne1.true) l.invariant.4;
-      long_made = omega (arith, p.2, l.invariant.3);
+      room = lined_room c.args.n c.args.key.now l.k (omega arith) (first (goal.at.put_band-end-requires c).After-index-band c.if-seen-ne1.true) l.invariant.3;
+      long_made = omega (arith, p.2, l.auto.made);
     }
 
 pub loop-k-preserved : goal.loop-k-preserved
@@ -56,15 +56,14 @@ loop-k-preserved c =
       omega arith,
       marked_next _ _ _ l.k _ (flag here) c.index-band.ensures l.invariant.1,
       simp length-set l.invariant.2,
-      c.if-seen-ne1.auto.made ∙ l.invariant.3,
       elim c.if-seen-ne1.branch [
         | then-seen-ne1 w ↦ subst₂ (λ (x : List ℕ) (y : ℕ). Lined a.n a.key.now x y (l.k + 1)) (sym w.made-is) (sym w.end-is)
-            (lined_next a.n a.key.now l.k (omega arith) (first here w.if-seen-ne1.true) l.invariant.4 (omega (arith, w.put_band-end.ensures.1, c.requires.2, w.put_band-end.auto.made, l.invariant.3)) w.put_band-end.ensures.0)
+            (lined_next a.n a.key.now l.k (omega arith) (first here w.if-seen-ne1.true) l.invariant.3 (omega (arith, w.put_band-end.ensures.1, c.requires.2, w.put_band-end.auto.made, l.auto.made)) w.put_band-end.ensures.0)
         | else-seen-ne1 w ↦ subst₂ (λ (x : List ℕ) (y : ℕ). Lined a.n a.key.now x y (l.k + 1)) (sym w.made-is) (sym w.end-is)
-            (lined_skip a.n a.key.now l.k (omega arith) (leads_here here ∙ ap not (eq-eqb _ 1 w.if-seen-ne1.false)) l.invariant.4)
+            (lined_skip a.n a.key.now l.k (omega arith) (leads_here here ∙ ap not (eq-eqb _ 1 w.if-seen-ne1.false)) l.invariant.3)
       ],
     )
 
 pub returns : goal.returns
 unfolding limit
-returns c = let e : c.loop-k.k ≡ c.args.n = omega arith in lined_all _ _ (rw e at c.loop-k.invariant.4)
+returns c = let e : c.loop-k.k ≡ c.args.n = omega arith in lined_all _ _ (rw e at c.loop-k.invariant.3)

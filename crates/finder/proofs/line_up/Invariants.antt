@@ -8,7 +8,7 @@ use Rattle.finder.proofs.Lining.{Lined}
 use Rattle.finder.proofs.line_up.Given as goal
 
 abbrev pub invariant-loop-k : goal.invariant-loop-k
-invariant-loop-k l = (l.k ≤ l.n) × Marked (at l.key) l.used (65 + l.n) l.k × (length l.used ≡ length l.initial.used) × (length l.made ≡ length l.initial.made) × Lined l.n l.key l.made l.end l.k
+invariant-loop-k l = (l.k ≤ l.n) × Marked (at l.key) l.used (65 + l.n) l.k × (length l.used ≡ length l.initial.used) × Lined l.n l.key l.made l.end l.k
 
 abbrev pub decreases-loop-k : goal.decreases-loop-k
 decreases-loop-k l = l.n - l.k

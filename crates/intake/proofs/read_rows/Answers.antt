@@ -12,7 +12,7 @@ use Rattle.intake.specs.Words.{bad_row}
 use Rattle.intake.specs.Answer.{answer}
 use Rattle.intake.specs.Laws.{bad_row_lem, good_row}
 use Rattle.order.specs.Sheet.{Room}
-use Rattle.intake.proofs.Progress.{kept_next, progress_next}
+use Rattle.intake.proofs.Progress.{progress_next}
 use Rattle.intake.proofs.read_rows.Goals as goal
 use Rattle.intake.proofs.read_rows.Goals.{In-Good}
 
@@ -33,7 +33,7 @@ pub returns-in_default : goal.returns-in_default
 returns-in_default c =
     let words = c.args.table.now in
     let i = c.loop-i.i in
-    let p = c.loop-i.invariant.2 in
+    let p = c.loop-i.invariant.1 in
     let r = read_bad words i (sym c.read_row-reading.ensures ∙ c.in_default.is) in
     (i, lowest_at _ (bad_row words) i (omega arith) (bad_row_lem words i r.0) (λ k l. good_row words k (p.good k l)), ap (answer 3 i) (c.field_of.ensures ∙ (ap field_of c.in_default.is ∙ r.1)))
 
@@ -56,24 +56,22 @@ loop-i-preserved c =
     let l = c.loop-i in
     let r = row_is (goal.at.loop-i-preserved c).In-Good in
     let p = c.requires.2 in
-    let k = l.invariant.1 in
     let room : Room (l.i + 1) l.c l.t l.j l.e l.key =
     record {
-      long_c = omega (arith, k.same_c, p.long_c);
-      long_t = omega (arith, k.same_t, p.long_t);
-      long_j = omega (arith, k.same_j, p.long_j);
-      long_e = omega (arith, k.same_e, p.long_e);
-      long_key = omega (arith, k.same_key, p.long_key);
+      long_c = omega (arith, l.auto.c, p.long_c);
+      long_t = omega (arith, l.auto.t, p.long_t);
+      long_j = omega (arith, l.auto.j, p.long_j);
+      long_e = omega (arith, l.auto.e, p.long_e);
+      long_key = omega (arith, l.auto.key, p.long_key);
     } in (
       omega arith,
-      kept_next _ _ _ _ _ _ l.invariant.1,
       progress_next _ _ _ _ _ _ _ room r.0 (c.bit_times.ensures ∙ ap (λ (x : Row). bit_times x.length) r.1) (ap (λ (x : Row). x.period) r.1) (ap (λ (x : Row). x.jitter) r.1) (omega (arith, ap (λ (x : Row). x.deadline) r.1, ap (λ (x : Row). x.jitter) r.1))
-          (c.band_key.ensures ∙ ap (λ (x : Row). band_key x.queue l.i) r.1) l.invariant.2,
+          (c.band_key.ensures ∙ ap (λ (x : Row). band_key x.queue l.i) r.1) l.invariant.1,
     )
 
 pub returns : goal.returns
 returns c =
     let n = c.args.n in
     let e : c.loop-i.i ≡ n = omega arith in
-    let p = rw e at c.loop-i.invariant.2 in
+    let p = rw e at c.loop-i.invariant.1 in
     (refl, lowest_none n (bad_row _) (λ k l. good_row _ k (p.good k l)), p.holds)
