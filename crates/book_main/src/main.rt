@@ -1,6 +1,6 @@
 // Reads one book from standard input, and writes what `listing::list` makes of it. One byte more than the longest book decides
 // (`first_bytes_listed`), so no more is read. An input that cannot be read is taken to end there, and nothing is said where the text
-// cannot be written: a line of the text has no words for either.
+// cannot be written: the request has no words for either.
 #![tactic(auto)]
 
 ghost use Rattle.std.specs.Prelude.{◌≤◌, length};
