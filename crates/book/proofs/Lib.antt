@@ -1,4 +1,4 @@
 -- Laws that the proofs of this crate cite, and the round trip. Assumes nothing.
-mod Room
+mod Spelling
 mod Stores
 pub mod RoundTrip

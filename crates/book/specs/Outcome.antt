@@ -1,32 +1,29 @@
 -- Reading and writing a book have one outcome each, with few replies; and of a long input the first bytes decide. The promises come first, their
 -- proofs below.
 -- Assumes nothing.
-use Rattle.std.specs.Prelude.{ℕ, ◌≤◌, ◌<◌, ◌≡◌, refl, cond, List, [], ◌∷◌, length, take, T as Is, eqb}
+use Rattle.std.specs.Prelude.{ℕ, ◌≤◌, ◌<◌, ◌≡◌, refl, List, [], ◌∷◌, length, take, T as Is, Result}
 use Rattle.std.proofs.Math.Decide.{ℕ_discrete, dec_lt}
 use Rattle.std.proofs.Common.{arith, sym, ap, ◌∙◌, take-take, length-take-le, lit≤}
 use Rattle.licence.specs.Limit.{limit}
 use Rattle.order.specs.Orders.{mem}
 use Rattle.intake.specs.Refusals.{shape_refusal}
+use Rattle.intake.specs.declared.Refusal.{Refusal}
 use Rattle.intake.specs.Answer.{Answer, answer, refused}
 use Rattle.intake.specs.Laws.{meet, replied_one}
-use Rattle.intake.specs.Told.{told_refusal, told_refusal_lem, not_refusal, Numbers, number_has, then_numbers, if_numbers, at_numbers, told_one}
+use Rattle.intake.specs.Told.{told_as_one, Numbers, number_has, then_numbers, if_numbers, at_numbers}
 use Rattle.book.specs.Bytes.{from_high}
 use Rattle.book.specs.Book.{size, count}
 use Rattle.book.specs.Replies.{reading_answer, writing_answer, book_refusal, read_refusal, write_refusal, BookRead, BookWritten}
 use Rattle.book.specs.Laws.{book_empty, book_many, book_other}
-use Rattle.book.specs.declared.Reading.{Reading}
-use Rattle.book.specs.declared.Reading.TheVariants.{Rows, Refused}
-use Rattle.book.specs.declared.Writing.{Writing}
-use Rattle.book.specs.declared.Writing.TheVariants.{Bytes, Refused as Unwritten}
 
 -- For any bytes and lent words, no two answers, and no two lists of words afterwards.
 abbrev pub OneReading : Type 0
-OneReading = (book before after after' : List ℕ) (r r' : Reading)
+OneReading = (book before after after' : List ℕ) (r r' : Result ℕ Refusal)
     → BookRead book before after (reading_answer r) → BookRead book before after' (reading_answer r') → (r ≡ r') × (after ≡ after')
 
 -- For any words and lent bytes, no two answers, and no two lists of bytes afterwards.
 abbrev pub OneWriting : Type 0
-OneWriting = (words before after after' : List ℕ) (r r' : Writing)
+OneWriting = (words before after after' : List ℕ) (r r' : Result ℕ Refusal)
     → BookWritten words before after (writing_answer r) → BookWritten words before after' (writing_answer r') → (r ≡ r') × (after ≡ after')
 
 -- one of these numbers
@@ -53,32 +50,15 @@ one_read book before after after' a a' x y = replied_one x y (λ e p q. meet p q
 pub one_written : (words before after after' : List ℕ) (a a' : Answer) → BookWritten words before after a → BookWritten words before after' a' → (a ≡ a') × (after ≡ after')
 one_written words before after after' a a' x y = replied_one x y (λ e p q. meet p q)
 
--- each case of the enums has an answer of its own
-told_reading : Answer → Reading
-told_reading a = cond (eqb a.number 103) (Rows a.first) (Refused (told_refusal a))
-
-told_reading_lem : (r : Reading) → told_reading (reading_answer r) ≡ r
-unfolding told_reading
-told_reading_lem (Rows n) = refl
-told_reading_lem (Refused r) = rw (not_refusal r 103 (lit≤ tt), told_refusal_lem r)
-
-told_writing : Answer → Writing
-told_writing a = cond (eqb a.number 104) (Bytes a.first) (Unwritten (told_refusal a))
-
-told_writing_lem : (r : Writing) → told_writing (writing_answer r) ≡ r
-unfolding told_writing
-told_writing_lem (Bytes n) = refl
-told_writing_lem (Unwritten r) = rw (not_refusal r 104 (lit≤ tt), told_refusal_lem r)
-
 pub one_reading : OneReading
 one_reading book before after after' r r' x y =
     let one = one_read book before after after' (reading_answer r) (reading_answer r') x y in
-    (told_one reading_answer told_reading told_reading_lem one.0, one.1)
+    ((told_as_one 103 103 (lit≤ tt) (lit≤ tt) r r' one.0).0, one.1)
 
 pub one_writing : OneWriting
 one_writing words before after after' r r' x y =
     let one = one_written words before after after' (writing_answer r) (writing_answer r') x y in
-    (told_one writing_answer told_writing told_writing_lem one.0, one.1)
+    ((told_as_one 104 104 (lit≤ tt) (lit≤ tt) r r' one.0).0, one.1)
 
 -- the numbers of the checks
 book_by : (book : List ℕ) → Numbers (OneOf (20 ∷ 2 ∷ 21 ∷ 22 ∷ [])) (book_refusal book)

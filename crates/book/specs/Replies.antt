@@ -1,26 +1,21 @@
 -- The reply tables of reading and of writing a book, whole: what is refused, and else the answer and every place of the lent list. Definitions only.
 -- Assumes nothing.
-use Rattle.std.specs.Prelude.{ℕ, ◌*◌, ◌≡◌, not, ◌||◌, List, length, eqb, ltb}
+use Rattle.std.specs.Prelude.{ℕ, ◌*◌, ◌≡◌, not, ◌||◌, List, length, eqb, ltb, Result, Ok}
 use Rattle.sums.specs.Masks.{lowest}
 use Rattle.licence.specs.Limit.{limit}
 use Rattle.intake.specs.Words.{rows}
-use Rattle.intake.specs.Answer.{Answer, answer, refusal_answer, Check, refuse_if, refuse_at, ◌then◌, Replied}
+use Rattle.intake.specs.Answer.{Answer, answer, told_as, Check, refuse_if, refuse_at, ◌then◌, Replied}
 use Rattle.intake.specs.Refusals.{shape_refusal}
+use Rattle.intake.specs.declared.Refusal.{Refusal}
 use Rattle.book.specs.Bytes.{laid_on}
 use Rattle.book.specs.Book.{size, book_of, count, wrong_offset, words_of}
-use Rattle.book.specs.declared.Reading.{Reading}
-use Rattle.book.specs.declared.Reading.TheVariants.{Rows, Refused}
-use Rattle.book.specs.declared.Writing.{Writing}
-use Rattle.book.specs.declared.Writing.TheVariants.{Bytes, Refused as Unwritten}
 
 -- a book read is 103 with its rows, a book written 104 with its bytes, a refusal its own number
-abbrev pub reading_answer : Reading → Answer
-reading_answer (Rows n) = answer 103 n 0
-reading_answer (Refused r) = refusal_answer r
+abbrev pub reading_answer : Result ℕ Refusal → Answer
+reading_answer r = told_as 103 r
 
-abbrev pub writing_answer : Writing → Answer
-writing_answer (Bytes k) = answer 104 k 0
-writing_answer (Unwritten r) = refusal_answer r
+abbrev pub writing_answer : Result ℕ Refusal → Answer
+writing_answer r = told_as 104 r
 
 -- these bytes are no book: '20 under two bytes or a count of 0; 2 a count over the row limit; 21 any other length; 22 a wrong offset, with the first
 -- such row'
@@ -47,10 +42,10 @@ write_refusal words room =
 abbrev pub BookRead : (book before after : List ℕ) (a : Answer) → Type 0
 BookRead book before after a =
     Replied (read_refusal book (length before)) before after a
-    ((a ≡ reading_answer (Rows (count book))) × (after ≡ laid_on (words_of book) before))
+    ((a ≡ reading_answer (Ok (count book))) × (after ≡ laid_on (words_of book) before))
 
 -- writing any words: the answer, and the lent bytes before and after
 abbrev pub BookWritten : (words before after : List ℕ) (a : Answer) → Type 0
 BookWritten words before after a =
     Replied (write_refusal words (length before)) before after a
-    ((a ≡ writing_answer (Bytes (size (rows words)))) × (after ≡ laid_on (book_of words) before))
+    ((a ≡ writing_answer (Ok (size (rows words)))) × (after ≡ laid_on (book_of words) before))

@@ -7,7 +7,8 @@ ghost use Rattle.std.specs.Prelude.{◌≤◌, length};
 
 use std::io::{Read, Write};
 
-// Reads until the list is full, or the input ends or cannot be read, and answers how many bytes were read.
+// Reads until the list is full, or the input ends or cannot be read, and answers how many bytes were read: std's `read_exact` does not say that of
+// an input that ends early.
 fn read_full<R: Read>(input: &mut R, list: &mut [u8]) -> usize
     ensures { result ≤ length list.new }
 {

@@ -1,6 +1,6 @@
 -- When each refusal of the desk is given, and what a claim and a withdrawal that none refuses are known to be.
 -- Assumes nothing.
-use Rattle.std.specs.Prelude.{ℕ, ◌≤◌, ◌<◌, ◌≡◌, Bool, not, ◌||◌, List, length, eqb, leb, ltb}
+use Rattle.std.specs.Prelude.{ℕ, ◌≤◌, ◌<◌, ◌≡◌, Bool, not, ◌||◌, List, length, eqb, leb, ltb, Result, Ok, Err}
 use Rattle.std.proofs.Common.{arith, subst}
 use Rattle.std.proofs.Math.Path.{refl}
 use Rattle.std.proofs.Math.Bool.{true, false}
@@ -17,15 +17,13 @@ use Rattle.intake.specs.Laws.{then_fine, if_fine, bad_row_lem, good_row, row_goo
 use Rattle.desk.specs.Ledger.{last_edition, unfit, edition_refusal, claim_refusal, withdrawal_refusal}
 use Rattle.desk.specs.Replies.{CheckIs}
 use Rattle.desk.specs.declared.Ledger.{Ledger}
-use Rattle.desk.specs.declared.Checked.{Checked}
-use Rattle.desk.specs.declared.Checked.TheVariants.{Fine, Refused as Stopped}
 
 -- ---- a check as code tells it
 
-pub check_stopped : {check : Check} {told : Checked} {r : Refusal} → CheckIs check told → told ≡ Stopped r → check ≡ refused (refusal_answer r)
+pub check_stopped : {check : Check} {told : Result (Unit {0}) Refusal} {r : Refusal} → CheckIs check told → told ≡ Err r → check ≡ refused (refusal_answer r)
 check_stopped {check} h e = subst (CheckIs check) e h
 
-pub check_passed : {check : Check} {told : Checked} → CheckIs check told → told ≡ Fine → check ≡ fine
+pub check_passed : {check : Check} {told : Result (Unit {0}) Refusal} → CheckIs check told → told ≡ Ok tt → check ≡ fine
 check_passed {check} h e = subst (CheckIs check) e h
 
 -- where it is false that two are not equal, they are

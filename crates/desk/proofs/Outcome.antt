@@ -1,23 +1,21 @@
 -- The promises of specs/Outcome are kept. Assumes nothing.
-use Rattle.std.specs.Prelude.{ℕ, ◌+◌, ◌*◌, ◌≤◌, ◌≡◌, refl, ◌⊎◌, ◌↔◌, cond, List, [], ◌++◌, length, eqb}
-use Rattle.std.proofs.Common.{arith, ap, ap₂, subst, ◌∙◌, inl, inr, append-nil, drop_of_length-le, take_at, lit≤}
+use Rattle.std.specs.Prelude.{ℕ, ◌+◌, ◌*◌, ◌≤◌, ◌≡◌, ◌⊎◌, ◌↔◌, List, [], ◌++◌, length}
+use Rattle.std.proofs.Common.{arith, ap, ap₂, subst, ◌∙◌, inl, inr, append-nil, drop_of_length-le, take_at}
 use Rattle.licence.specs.Laws.{row_allowed}
 use Rattle.order.specs.Orders.{HasOrder}
 use Rattle.intake.specs.Words.{table_of}
 use Rattle.intake.specs.Answer.{Answer, fine}
 use Rattle.intake.specs.Laws.{meet, replied_one}
-use Rattle.intake.specs.Told.{told_refusal, told_refusal_lem, not_refusal, told_one}
+use Rattle.intake.specs.Told.{told_as_one}
 use Rattle.finder.specs.Placing.{Ending, found, none, free, Finds}
 use Rattle.finder.proofs.Right.{Right, finds_one, finds_right}
 use Rattle.desk.specs.Ledger.{Whole, held_words, row_out, claim_refusal, with_row}
-use Rattle.desk.specs.Replies.{decision_answer, Told, Claimed, ClaimNumber, WithdrawalNumber}
+use Rattle.desk.specs.Replies.{Told, Claimed, ClaimNumber, WithdrawalNumber}
 use Rattle.desk.proofs.Laws.{Claimable, claimable}
 use Rattle.desk.proofs.HeldRows.{held_length, with_length, with_good, with_count}
 use Rattle.desk.proofs.Leaving.{still_ordered}
 use Rattle.desk.proofs.Turns.{ClaimTurn, refused_claim, granted_claim, claim_turn, WithdrawalTurn, refused_withdrawal, done_withdrawal, withdrawal_turn}
 use Rattle.desk.specs.declared.Ledger.{Ledger}
-use Rattle.desk.specs.declared.Decision.{Decision}
-use Rattle.desk.specs.declared.Decision.TheVariants.{Granted, Withdrawn as TakenOut, Refused}
 use Rattle.desk.specs.Outcome.{ClaimAltersNothing, GrantedExactly, NoOrderExactly, NoOrderStays, NoOtherClaimReply, NoOtherWithdrawalReply, OneClaim, OneDecision, OneWithdrawal, WithdrawalAltersNothing}
 
 -- ---- the proofs
@@ -33,17 +31,8 @@ one_claim before row seen after after' a a' s s' =
 pub one_withdrawal : OneWithdrawal
 one_withdrawal before k seen after after' a a' s s' = replied_one s s' (λ e x y. meet x y)
 
-told : Answer → Decision
-told a = cond (eqb a.number 105) (Granted a.first) (cond (eqb a.number 106) (TakenOut a.first) (Refused (told_refusal a)))
-
-told_answer : (r : Decision) → told (decision_answer r) ≡ r
-unfolding told
-told_answer (Granted e) = refl
-told_answer (TakenOut e) = refl
-told_answer (Refused r) = rw (not_refusal r 105 (lit≤ tt), not_refusal r 106 (lit≤ tt), told_refusal_lem r)
-
 pub one_decision : OneDecision
-one_decision r r' e = told_one decision_answer told told_answer e
+one_decision = told_as_one
 
 pub claim_alters_nothing : ClaimAltersNothing
 claim_alters_nothing before row seen after a x other = go (claim_turn before row seen after a x)

@@ -1,6 +1,6 @@
 -- How a call at the desk turns out: the refusals that there are, and else what was done.
 -- Assumes nothing.
-use Rattle.std.specs.Prelude.{ℕ, ◌+◌, ◌-◌, ◌<◌, ◌≡◌, refl, ◌⊎◌, not, List, [], length, eqb, leb}
+use Rattle.std.specs.Prelude.{ℕ, ◌+◌, ◌-◌, ◌<◌, ◌≡◌, refl, ◌⊎◌, not, List, [], length, eqb, leb, Ok}
 use Rattle.std.proofs.Common.{arith, sym, ap, subst, inl, inr}
 use Rattle.licence.specs.Limit.{limit}
 use Rattle.licence.specs.Row.{bad_field}
@@ -12,7 +12,6 @@ use Rattle.desk.specs.Ledger.{last_edition, unfit, edition_refusal, claim_refusa
 use Rattle.desk.specs.Replies.{decision_answer, Told, Claimed, Withdrawn, ClaimNumber, WithdrawalNumber}
 use Rattle.desk.proofs.Laws.{Claimable, claimable, Withdrawable, withdrawable}
 use Rattle.desk.specs.declared.Ledger.{Ledger}
-use Rattle.desk.specs.declared.Decision.TheVariants.{Granted, Withdrawn as TakenOut}
 
 -- ---- the numbers of the checks
 
@@ -39,7 +38,7 @@ withdrawal_numbers l k seen =
 -- a claim is refused, and nothing altered; or the row is added, and an order was found
 pub data ClaimTurn (l : Ledger) (row : List ℕ) (seen : ℕ) (after : Ledger) (a : Answer) : Type 0 where
   refused_claim : after ≡ l → (a.number ≡ 8) ⊎ ClaimNumber a.number → ClaimTurn l row seen after a
-  granted_claim : {o : List ℕ} {t : ℕ} → a ≡ decision_answer (Granted (l.edition + 1)) → after ≡ changed l (with_row l row) (l.held + 1) → Claimable l row seen
+  granted_claim : {o : List ℕ} {t : ℕ} → a ≡ decision_answer 105 (Ok (l.edition + 1)) → after ≡ changed l (with_row l row) (l.held + 1) → Claimable l row seen
       → Finds (table_of (with_row l row)) free [] 0 (found o t) → ClaimTurn l row seen after a
 
 pub claim_turn : (l : Ledger) (row : List ℕ) (seen : ℕ) (after : Ledger) (a : Answer) → Claimed l row seen after a → ClaimTurn l row seen after a
@@ -58,7 +57,7 @@ claim_turn l row seen after a x = go (claim_refusal l row seen) refl
 -- a withdrawal is refused, and nothing altered; or the row is taken out
 pub data WithdrawalTurn (l : Ledger) (k seen : ℕ) (after : Ledger) (a : Answer) : Type 0 where
   refused_withdrawal : after ≡ l → WithdrawalNumber a.number → WithdrawalTurn l k seen after a
-  done_withdrawal : a ≡ decision_answer (TakenOut (l.edition + 1)) → after ≡ changed l (without_row l k) (l.held - 1) → Withdrawable l k seen → WithdrawalTurn l k seen after a
+  done_withdrawal : a ≡ decision_answer 106 (Ok (l.edition + 1)) → after ≡ changed l (without_row l k) (l.held - 1) → Withdrawable l k seen → WithdrawalTurn l k seen after a
 
 pub withdrawal_turn : (l : Ledger) (k seen : ℕ) (after : Ledger) (a : Answer) → Withdrawn l k seen after a → WithdrawalTurn l k seen after a
 withdrawal_turn l k seen after a x = go (withdrawal_refusal l k seen) refl

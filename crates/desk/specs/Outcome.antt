@@ -1,14 +1,14 @@
 -- What follows from the statements of claiming and withdrawing: each leaves room for a single outcome, a refusal alters nothing, and a claim that no
 -- check refuses is granted exactly where an order passes. The promises are here, their proofs in proofs/Outcome.
 -- Assumes nothing.
-use Rattle.std.specs.Prelude.{ℕ, ◌≡◌, ◌⊎◌, ◌↔◌, List}
+use Rattle.std.specs.Prelude.{ℕ, ◌≤◌, ◌≡◌, ◌⊎◌, ◌↔◌, List, Result, IsOk}
 use Rattle.order.specs.Orders.{HasOrder}
 use Rattle.intake.specs.Words.{table_of}
 use Rattle.intake.specs.Answer.{Answer, fine}
+use Rattle.intake.specs.declared.Refusal.{Refusal}
 use Rattle.desk.specs.Ledger.{Whole, held_words, claim_refusal, with_row}
 use Rattle.desk.specs.Replies.{decision_answer, Claimed, Withdrawn, ClaimNumber, WithdrawalNumber}
 use Rattle.desk.specs.declared.Ledger.{Ledger}
-use Rattle.desk.specs.declared.Decision.{Decision}
 
 -- For any ledger, row and edition, the statement of claiming allows no two answers and no two ledgers afterwards.
 abbrev pub OneClaim : Type 0
@@ -20,9 +20,10 @@ abbrev pub OneWithdrawal : Type 0
 OneWithdrawal = (before : Ledger) (k seen : ℕ) (after after' : Ledger) (a a' : Answer)
     → Withdrawn before k seen after a → Withdrawn before k seen after' a' → (a ≡ a') × (after ≡ after')
 
--- And an answer is of one case of the enum that `claim` and `withdraw` give.
+-- And an answer is of one case of the Result that `claim` and `withdraw` give, and where that is Ok, of one of the two.
 abbrev pub OneDecision : Type 0
-OneDecision = (r r' : Decision) → decision_answer r ≡ decision_answer r' → r ≡ r'
+OneDecision = (number number' : ℕ) → 100 ≤ number → 100 ≤ number' → (r r' : Result ℕ Refusal) → decision_answer number r ≡ decision_answer number' r'
+    → (r ≡ r') × (IsOk r → number ≡ number')
 
 -- A claim that is not granted, whatever the reply, alters no word of the ledger; the same of a withdrawal.
 abbrev pub ClaimAltersNothing : Type 0

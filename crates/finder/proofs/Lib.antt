@@ -1,5 +1,4 @@
 pub mod Turning
-pub mod Shifting
 pub mod Sorted
 pub mod ByBand
 pub mod Lining

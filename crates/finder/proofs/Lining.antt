@@ -4,21 +4,21 @@ use native.Mathlib.Numerals.{add-one}
 use native.Mathlib.Omega.{arith}
 use mathlib.Core.Path.{◌≡◌, refl, sym, ap, ap₂, subst, ◌∙◌}
 use mathlib.Core.Logic.{◌⊎◌, inl, inr}
-use mathlib.Core.Bool.{true, false, not}
+use mathlib.Core.Bool.{Bool, true, false, not}
 use mathlib.Core.List.{List, [], ◌∷◌, ◌++◌, append_assoc, append-nil}
-use lib.ListN.{length, set, length-set, take, length-append}
+use lib.ListN.{length, get_or, set, length-set, take, length-append}
 use lib.Seq.{take-suc-set, length-take-le, get_or-take}
 use lib.Dec.{T as Is, T_not}
 use Rattle.sums.specs.Masks.{Mask, any_below}
 use Rattle.sums.specs.MaskLaws.{is_true, any_intro}
-use Rattle.sums.specs.Columns.{at, flagged}
+use Rattle.sums.specs.Columns.{at}
 use Rattle.order.specs.Table.{Table, band}
 use Rattle.order.specs.Orders.{mem, NoRepeat}
 use Rattle.order.specs.Lists.{mem_get_or}
 use Rattle.order.specs.Counting.{count_le, count_list, order_length}
 use Rattle.order.specs.Bands.{band_intro}
 use Rattle.order.specs.Sheet.{sheet}
-use Rattle.order.specs.Marks.{shown_before, Marked}
+use Rattle.order.specs.Marks.{Flags}
 use Rattle.finder.specs.Placing.{rising, leads}
 use Rattle.finder.specs.Rising.{mem_append, no_repeat_append, rising_elim, rising_once}
 use Rattle.finder.specs.Leading.{band_rows_elim}
@@ -70,9 +70,9 @@ module _ (n : ℕ) (key : List ℕ) where
   leading k i h = rising_elim k (leads τ) i (rw (← firsts_are k) h)
 
   -- a row is the first of its band where the flag of its key is not up yet
-  pub leads_flag : (used : List ℕ) (k b : ℕ) → Marked (at key) used (65 + n) k → b ≡ at key k → b < 65 + n → leads τ k ≡ not (flagged used b)
+  pub leads_flag : (used : List Bool) (most k : ℕ) → Flags (at key) used most k → at key k < most → leads τ k ≡ not (get_or used (at key k) false)
   unfolding leads
-  leads_flag used k b h e l = ap not (ap (shown_before (at key) k) (sym e) ∙ sym (h.up b l))
+  leads_flag used most k h l = ap not (sym (h.up (at key k) l))
 
   -- no row before it is of its band
   pub before_first : (k : ℕ) → Is (leads τ k) → (i : ℕ) → i < k → at key i ≡ at key k → ⊥

@@ -1,6 +1,6 @@
 -- The promises of specs/Outcome are kept.
 -- Assumes nothing.
-use Rattle.std.specs.Prelude.{ℕ, suc, ◌*◌, ◌≤◌, ◌<◌, ◌≡◌, refl, ◌⊎◌, cond, List, [], ◌++◌, length, take, drop, eqb}
+use Rattle.std.specs.Prelude.{ℕ, suc, ◌*◌, ◌≤◌, ◌<◌, ◌≡◌, refl, ◌⊎◌, List, [], ◌++◌, length, take, drop}
 use Rattle.std.proofs.Common.{arith, sym, ap, ◌∙◌, subst, inl, inr, take_at, lit≤}
 use Rattle.licence.specs.Laws.{row_allowed}
 use Rattle.order.specs.Orders.{Order, Together, AllPass}
@@ -9,13 +9,11 @@ use Rattle.intake.specs.Words.{rows, table_of}
 use Rattle.intake.specs.Answer.{Answer, Check, refused, fine}
 use Rattle.intake.specs.Refusals.{table_refusal}
 use Rattle.intake.specs.Laws.{meet, replied_one, accepted}
-use Rattle.intake.specs.Told.{told_refusal, told_refusal_lem, not_refusal, number_has, told_one, replied_fine, table_small}
+use Rattle.intake.specs.Told.{told_as_one, number_has, replied_fine, table_small}
 use Rattle.finder.specs.Placing.{Ending, found, none, free, Finds}
 use Rattle.finder.proofs.Right.{Right, finds_one, finds_right}
 use Rattle.finder.specs.Tried.{TriedWithin, tried_bound}
 use Rattle.finder.specs.Searched.{finding_answer, Told, Searched}
-use Rattle.finder.specs.declared.Finding.{Finding}
-use Rattle.finder.specs.declared.Finding.TheVariants.{Found, Refused}
 use Rattle.finder.specs.Outcome.{FewTried, FoundExactly, FoundMeans, FoundOrder, NoOrderAtAll, NoOrderExactly, NoOtherReply, OneFinding, OneOutcome, TriedAtMost, bands}
 
 -- the order itself is the first n places
@@ -42,19 +40,10 @@ one_outcome words before after after' a a' s s' =
     one_told (found o t) x y = meet x y
     one_told (none u t) x y = meet x y
 
--- each case of the enum has an answer of its own
-told : Answer → Finding
-told a = cond (eqb a.number 102) (Found a.first) (Refused (told_refusal a))
-
-told_answer : (r : Finding) → told (finding_answer r) ≡ r
-unfolding told
-told_answer (Found t) = refl
-told_answer (Refused r) = rw (not_refusal r 102 (lit≤ tt), told_refusal_lem r)
-
 pub one_finding : OneFinding
 one_finding words before after after' r r' s s' =
     let x = one_outcome words before after after' (finding_answer r) (finding_answer r') s s' in
-    (told_one finding_answer told told_answer x.0, x.1)
+    ((told_as_one 102 102 (lit≤ tt) (lit≤ tt) r r' x.0).0, x.1)
 
 pub found_means : FoundMeans
 found_means words before after a s is_102 =

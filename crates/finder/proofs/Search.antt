@@ -1,5 +1,6 @@
 -- The search place by place: what is known before each place, that the verdict on the run of the band that comes next is the verdict that
 -- the placing rule asks for, and that each turn follows the rule. Assumes nothing.
+use Rattle.std.specs.Prelude.{Option}
 use Prim.Native.Nat.{ℕ, ◌+◌, ◌-◌, ◌*◌, ◌≤◌, ◌<◌, max}
 use native.Mathlib.Decide.{dec_lt}
 use native.Mathlib.Omega.{arith}
@@ -22,7 +23,6 @@ use Rattle.order.specs.Counting.{count_le}
 use Rattle.order.specs.Lists.{mem_nil, mem_get_or, mem_at}
 use Rattle.order.specs.Sheet.{sheet, RunVerdict, LongestIs, VerdictIs}
 use Rattle.order.specs.Arranged.{run_verdict, own_max}
-use Rattle.order.specs.declared.Verdict.{Verdict}
 use Rattle.finder.specs.Placing.{Ending, found, none, rising, leads, unplaced, placing, PassesOver, free, candidate, Finds, done, place, stuck}
 use Rattle.finder.specs.Rising.{mem_both, at_left, at_right, rising_elim, rising_intro, rising_once, rising_same}
 use Rattle.finder.specs.Leading.{unplaced_out, candidate_unplaced, band_rows_elim, band_rows_intro}
@@ -152,7 +152,7 @@ module _ (n : ℕ) (c t j e key : List ℕ) where
       -- the columns stand along the rows
       module _ (ac at' aj ae : List ℕ) (hc : (p : ℕ) → p < top → at ac p ≡ at c (at front p)) (ht : (p : ℕ) → p < top → at at' p ≡ at t (at front p))
           (hj : (p : ℕ) → p < top → at aj p ≡ at j (at front p)) (he : (p : ℕ) → p < top → at ae p ≡ at e (at front p)) (end : ℕ) (q : end ≡ s + length (rows τ placed x)) where
-        module _ (v : Verdict) (h : RunVerdict top ac at' aj ae s end below v) where
+        module _ (v : Option ℕ) (h : RunVerdict top ac at' aj ae s end below v) where
           -- the verdict on the run is the one that the rule asks for
           pub verdict_is : VerdictIs (F τ own (except (λ k. not (mem placed k)) own) (except (mem placed) own)) (MIN τ own) (least_e τ own) v
           verdict_is =

@@ -1,11 +1,12 @@
--- A run that goes behind the places up to top: one row after the other comes to the same, and what stands where afterwards. Assumes nothing.
-use Prim.Native.Nat.{ℕ, suc, ◌+◌, ◌-◌, ◌≤◌, ◌<◌}
+-- A run that goes behind the places up to top: what stands where afterwards. Assumes nothing.
+use Prim.Native.Nat.{ℕ, ◌+◌, ◌-◌, ◌≤◌, ◌<◌}
 use native.Mathlib.Decide.{dec_lt}
 use native.Mathlib.Omega.{arith}
-use mathlib.Core.Path.{◌≡◌, refl, sym, ap, ◌∙◌}
+use mathlib.Core.Path.{◌≡◌, sym, ap, ◌∙◌}
 use mathlib.Core.List.{List, ◌++◌}
-use lib.ListN.{length, take, length-append}
-use lib.Seq.{slice, length-slice, length-take-le, get_or-take, get_or-drop, ext_get_or}
+use lib.ListN.{length, get_or, take, drop, length-append, length-drop, get_or-append}
+use lib.Seq.{slice, length-slice, length-take-le, get_or-take, get_or-drop, get_or-append-add, ext_get_or}
+use Rattle.std.specs.List.{RotatedLeft}
 use borrow.Author.Tests.{lt-ltb, le-ltb}
 use Rattle.sums.specs.Columns.{at}
 use Rattle.finder.specs.Rising.{at_left, at_right}
@@ -40,37 +41,73 @@ module _ (s e top p : ℕ) where
       go (no a) (yes b) = rw (turned_closer (omega arith) b) b
       go (no a) (no b) = rw (turned_run (omega arith) (omega arith) l) (omega arith)
 
--- a row more: its turn, after those of the rows before it
-pub turned_more : (s i top p : ℕ) → s ≤ i → i < top → turned s i top (turned s (suc s) top p) ≡ turned s (suc i) top p
-turned_more s i top p h k = go (dec_lt p s) (dec_lt (suc p) top) (dec_lt (p + (suc i - s)) top) (dec_lt p top)
-  where
-    go : Dec (p < s) → Dec (suc p < top) → Dec (p + (suc i - s) < top) → Dec (p < top) → turned s i top (turned s (suc s) top p) ≡ turned s (suc i) top p
-    go (yes a) _ _ _ = rw (turned_before s (suc s) top p a, turned_before s i top p a, turned_before s (suc i) top p a)
-    go (no a) (yes b) (yes c) _ =
-        let one = turned_closer s (suc s) top p (omega arith) (omega arith) in
-        let q : p + (suc s - s) ≡ suc p = omega arith in
-        rw (one, q, turned_closer s i top (suc p) (omega arith) (omega arith), turned_closer s (suc i) top p (omega arith) c) (omega arith)
-    go (no a) (yes b) (no c) _ =
-        let one = turned_closer s (suc s) top p (omega arith) (omega arith) in
-        let q : p + (suc s - s) ≡ suc p = omega arith in
-        rw (one, q, turned_run s i top (suc p) (omega arith) (omega arith) b, turned_run s (suc i) top p (omega arith) (omega arith) (omega arith)) (omega arith)
-    go (no a) (no b) _ (yes d) =
-        let one = turned_run s (suc s) top p (omega arith) (omega arith) d in
-        let q : s + (p + (suc s - s) - top) ≡ s = omega arith in
-        rw (one, q, turned_run s (suc i) top p (omega arith) (omega arith) d) (last (dec_lt (s + (i - s)) top))
-      where
-        last : Dec (s + (i - s) < top) → turned s i top s ≡ s + (p + (suc i - s) - top)
-        last (yes z) = turned_closer s i top s (omega arith) z ∙ omega arith
-        last (no z) = absurd (omega arith)
-    go (no a) (no b) _ (no d) = rw (turned_after s (suc s) top p (omega arith) (omega arith), turned_after s i top p (omega arith) (omega arith), turned_after s (suc i) top p (omega arith) (omega arith))
+-- the places s to top - 1 rotated, so that the run comes last
+module _ {A : Type 0} (s e top : ℕ) (list part : List A) (se : s ≤ e) (et : e ≤ top) (long : top ≤ length list) where
+  abbrev places : List A
+  places = take (top - s) (drop s list)
 
-pub turned_none : (s top p : ℕ) → s ≤ top → turned s s top p ≡ p
-turned_none s top p h = go (dec_lt p s) (dec_lt p top)
-  where
-    go : Dec (p < s) → Dec (p < top) → turned s s top p ≡ p
-    go (yes a) _ = turned_before s s top p a
-    go (no a) (yes b) = turned_closer s s top p (omega arith) (omega arith) ∙ omega arith
-    go (no a) (no b) = turned_after s s top p h (omega arith)
+  abbrev behind : List A
+  behind = drop (top - s) (drop s list)
+
+  before_long : length (take s list) ≡ s
+  before_long = length-take-le s list (omega arith)
+
+  places_long : length places ≡ top - s
+  places_long = length-take-le (top - s) (drop s list) (omega (arith, length-drop s list))
+
+  pub rotated : length part ≡ length places → RotatedLeft places part (length places) (e - s) → Turned s e top list (take s list ++ (part ++ behind))
+  rotated same r =
+      record {
+        long = omega (arith, length-append (take s list) (part ++ behind), length-append part behind, length-drop (top - s) (drop s list), length-drop s list, before_long, places_long);
+        moved = λ p d. go p d (dec_lt p s) (dec_lt (p + (e - s)) top) (dec_lt p top);
+      }
+    where
+      -- what stands behind the places before s, and in the part
+      later : (p : ℕ) (d : A) → s ≤ p → get_or (take s list ++ (part ++ behind)) p d ≡ get_or (part ++ behind) (p - s) d
+      later p d h = ap (λ (x : ℕ). get_or (take s list ++ (part ++ behind)) x d) (omega (arith, before_long)) ∙ get_or-append-add (take s list) (part ++ behind) (p - s) d
+
+      within : (p : ℕ) (d : A) → s ≤ p → p < top → get_or (take s list ++ (part ++ behind)) p d ≡ get_or part (p - s) d
+      within p d h l = later p d h ∙ get_or-append part behind d (p - s) (omega (arith, same, places_long))
+
+      was : (q : ℕ) (d : A) → q < top - s → get_or places q d ≡ get_or list (s + q) d
+      was q d l = get_or-take (top - s) (drop s list) q d l ∙ get_or-drop s list q d
+
+      go : (p : ℕ) (d : A) → Dec (p < s) → Dec (p + (e - s) < top) → Dec (p < top) → get_or (take s list ++ (part ++ behind)) p d ≡ get_or list (turned s e top p) d
+      go p d (yes a) _ _ = rw (turned_before s e top p a) (get_or-append (take s list) (part ++ behind) d p (omega (arith, before_long)) ∙ get_or-take s list p d a)
+      go p d (no a) (yes b) _ =
+          rw (turned_closer s e top p (omega arith) b)
+          (within p d (omega arith) (omega arith) ∙ (r.0 (p - s) d (omega (arith, places_long)) ∙ (was (p - s + (e - s)) d (omega arith) ∙ ap (λ (x : ℕ). get_or list x d) (omega arith))))
+      go p d (no a) (no b) (yes c) =
+          rw (turned_run s e top p (omega arith) (omega arith) c)
+          (within p d (omega arith) c ∙ (r.1 (p - s) d (omega (arith, places_long)) (omega (arith, places_long)) ∙ (was _ d (omega (arith, places_long)) ∙ ap (λ (x : ℕ). get_or list x d) (omega (arith, places_long)))))
+      go p d (no a) (no b) (no c) =
+          rw (turned_after s e top p (omega arith) (omega arith))
+          (later p d (omega arith) ∙ (ap (λ (x : ℕ). get_or (part ++ behind) x d) (omega (arith, same, places_long)) ∙ (get_or-append-add part behind (p - top) d
+          ∙ (get_or-drop (top - s) (drop s list) (p - top) d ∙ (get_or-drop s list (top - s + (p - top)) d ∙ ap (λ (x : ℕ). get_or list x d) (omega arith))))))
+
+-- the places up to top turned by themselves: the whole list is then turned up to there
+module _ {A : Type 0} (s e top : ℕ) (list part : List A) (se : s ≤ e) (et : e ≤ top) (long : top ≤ length list) where
+  abbrev first : List A
+  first = take top list
+
+  first_long : length first ≡ top
+  first_long = length-take-le top list long
+
+  pub turned_whole : Turned s e (length first) first part → Turned s e top list (part ++ drop top list)
+  turned_whole t =
+      record {
+        long = omega (arith, length-append part (drop top list), t.long, first_long, length-drop top list);
+        moved = λ p d. go p d (dec_lt p top);
+      }
+    where
+      go : (p : ℕ) (d : A) → Dec (p < top) → get_or (part ++ drop top list) p d ≡ get_or list (turned s e top p) d
+      go p d (yes a) =
+          get_or-append part (drop top list) d p (omega (arith, t.long, first_long))
+          ∙ (t.moved p d ∙ (ap (λ (x : ℕ). get_or first (turned s e x p) d) first_long ∙ get_or-take top list (turned s e top p) d (turned_within s e top p se et a)))
+      go p d (no a) =
+          rw (turned_after s e top p (omega arith) (omega arith))
+          (ap (λ (x : ℕ). get_or (part ++ drop top list) x d) (omega (arith, t.long, first_long)) ∙ (get_or-append-add part (drop top list) (p - top) d
+          ∙ (get_or-drop top list (p - top) d ∙ ap (λ (x : ℕ). get_or list x d) (omega arith))))
 
 -- a list that is turned: before its new top those before the run and those behind it, and from there on the run and what stood from top on
 module _ {s e top : ℕ} {list list' : List ℕ} (t : Turned s e top list list') (se : s ≤ e) (et : e ≤ top) where
@@ -79,7 +116,7 @@ module _ {s e top : ℕ} {list list' : List ℕ} (t : Turned s e top list list')
       ext_get_or 0 (take (top - (e - s)) list') (take s list ++ slice e top list)
       (length-take-le (top - (e - s)) list' (omega (arith, t.long)) ∙ omega (arith, length-append (take s list) (slice e top list), length-take-le s list (omega arith), length-slice e top list long))
       (λ p l. let h : p < top - (e - s) = omega (arith, length-take-le (top - (e - s)) list' (omega (arith, t.long))) in
-      get_or-take (top - (e - s)) list' p 0 h ∙ (t.moved p ∙ go p h (dec_lt p s)))
+      get_or-take (top - (e - s)) list' p 0 h ∙ (t.moved p 0 ∙ go p h (dec_lt p s)))
     where
       go : (p : ℕ) → p < top - (e - s) → Dec (p < s) → at list (turned s e top p) ≡ at (take s list ++ slice e top list) p
       go p h (yes a) = ap (at list) (turned_before s e top p a) ∙ (sym (get_or-take s list p 0 a) ∙ sym (at_left (take s list) (slice e top list) p (omega (arith, length-take-le s list (omega arith)))))
@@ -95,7 +132,7 @@ module _ {s e top : ℕ} {list list' : List ℕ} (t : Turned s e top list list')
       ext_get_or 0 (slice (top - (e - s)) n list') (slice s e list ++ slice top n list)
       (length-slice (top - (e - s)) n list' (omega (arith, t.long)) ∙ omega (arith, length-append (slice s e list) (slice top n list), length-slice s e list (omega arith), length-slice top n list long))
       (λ p l. let h : p < n - (top - (e - s)) = omega (arith, length-slice (top - (e - s)) n list' (omega (arith, t.long))) in
-      get_or-drop (top - (e - s)) (take n list') p 0 ∙ (get_or-take n list' (top - (e - s) + p) 0 (omega arith) ∙ (t.moved (top - (e - s) + p) ∙ go p h (dec_lt p (e - s)))))
+      get_or-drop (top - (e - s)) (take n list') p 0 ∙ (get_or-take n list' (top - (e - s) + p) 0 (omega arith) ∙ (t.moved (top - (e - s) + p) 0 ∙ go p h (dec_lt p (e - s)))))
     where
       go : (p : ℕ) → p < n - (top - (e - s)) → Dec (p < e - s) → at list (turned s e top (top - (e - s) + p)) ≡ at (slice s e list ++ slice top n list) p
       go p h (yes a) =
@@ -108,16 +145,3 @@ module _ {s e top : ℕ} {list list' : List ℕ} (t : Turned s e top list list')
           ∙ sym (at_right (slice s e list) (slice top n list) p (omega (arith, length-slice s e list (omega arith)))
           ∙ (ap (at (slice top n list)) (omega (arith, length-slice s e list (omega arith)))
           ∙ (get_or-drop top (take n list) (p - (e - s)) 0 ∙ (get_or-take n list (top + (p - (e - s))) 0 (omega arith) ∙ ap (at list) q))))
-
-pub nothing_turned : (s top : ℕ) (list : List ℕ) → s ≤ top → Turned s s top list list
-nothing_turned s top list h = record { long = refl; moved = λ p. ap (at list) (sym (turned_none s top p h)) }
-
--- one row more goes behind
-pub one_turned : (s i top : ℕ) {list list' list'' : List ℕ} → s ≤ i → i < top → Turned s i top list list' → Turned s (s + 1) top list' list'' → Turned s (i + 1) top list list''
-one_turned s i top {list} h k a b =
-    let first : s + 1 ≡ suc s = omega arith in
-    let next : suc i ≡ i + 1 = omega arith in
-    record {
-      long = b.long ∙ a.long;
-      moved = λ p. b.moved p ∙ (a.moved (turned s (s + 1) top p) ∙ ap (at list) (ap (λ (x : ℕ). turned s i top (turned s x top p)) first ∙ (turned_more s i top p h k ∙ ap (λ (x : ℕ). turned s x top p) next)));
-    }

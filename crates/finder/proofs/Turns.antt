@@ -1,4 +1,5 @@
 -- The search as code holds it: the rows in one list, the columns along it, and what a turn over one band asks and gives. Assumes nothing.
+use Rattle.std.specs.Prelude.{Option, Some, None}
 use Prim.Native.Nat.{ℕ, ◌+◌, ◌-◌, ◌≤◌, ◌<◌}
 use native.Mathlib.Decide.{dec_lt}
 use native.Mathlib.Omega.{arith}
@@ -17,8 +18,6 @@ use Rattle.order.specs.Lists.{mem_get_or}
 use Rattle.order.specs.Figures.{figure_fits}
 use Rattle.order.specs.Sheet.{sheet, Room, Along, Aligned, RunIn, RunVerdict, Stretch, LongestIs, VerdictIs}
 use Rattle.order.specs.Columns.{rates_along, lengths_along}
-use Rattle.order.specs.declared.Verdict.{Verdict}
-use Rattle.order.specs.declared.Verdict.TheVariants.{Figure, Late}
 use Rattle.intake.specs.Held.{Held}
 use Rattle.finder.specs.Steps.{by_band, first_rows, RunEnds, turned, Turned, SixTurned}
 use Rattle.finder.proofs.Turning.{turned_within, turned_after, front_now, back_now}
@@ -28,7 +27,7 @@ use Rattle.finder.proofs.Search.{Before, before_first, front_range, parts, run_i
 
 -- a column stays along the rows when both are turned
 along_turned : (n s e top : ℕ) (column made made' along along' : List ℕ) → s ≤ e → e ≤ top → top ≤ n → Turned s e top made made' → Turned s e top along along' → Along n column made along → Along n column made' along'
-along_turned n s e top column made made' along along' se et tn a b h p l = b.moved p ∙ (h (turned s e top p) within ∙ ap (at column) (sym (a.moved p)))
+along_turned n s e top column made made' along along' se et tn a b h p l = b.moved p 0 ∙ (h (turned s e top p) within ∙ ap (at column) (sym (a.moved p 0)))
   where
     within : turned s e top p < n
     within = go (dec_lt p top)
@@ -104,18 +103,18 @@ module _ (n : ℕ) (c t j e key : List ℕ) where
       abbrev rest_rows : List ℕ
       rest_rows = bands_of τ next.rest
 
-      module _ {v : Verdict} (h : RunVerdict top ca ta ja ea s end below v) where
-        verdict : (v' : Verdict) → v ≡ v' → VerdictIs (F τ own (except (λ i. not (mem (slice top n made) i)) own) (except (mem (slice top n made)) own)) (MIN τ own) (least_e τ own) v'
+      module _ {v : Option ℕ} (h : RunVerdict top ca ta ja ea s end below v) where
+        verdict : (v' : Option ℕ) → v ≡ v' → VerdictIs (F τ own (except (λ i. not (mem (slice top n made) i)) own) (except (mem (slice top n made)) own)) (MIN τ own) (least_e τ own) v'
         verdict v' q =
             subst (VerdictIs _ _ _) q
             (verdict_is n c t j e key k.state next ca ta ja ea (in_front c ca k.aligned.along_c) (in_front t ta k.aligned.along_t) (in_front j ja k.aligned.along_j) (in_front e ea k.aligned.along_e) end ends v h)
 
         -- it is late: it is one more tried
-        pub tried_next : {bands' : ℕ} → bands' ≡ bands + 1 → v ≡ Late → Tried τ (slice top n made) end bands'
-        tried_next counted q = rw counted (tried_late τ (slice top n made) next end ends (verdict Late q))
+        pub tried_next : {bands' : ℕ} → bands' ≡ bands + 1 → v ≡ None → Tried τ (slice top n made) end bands'
+        tried_next counted q = rw counted (tried_late τ (slice top n made) next end ends (verdict None q))
 
         -- it passes: it is placed
-        module _ {R below' : ℕ} {made' ca' ta' ja' ea' ka' : List ℕ} (q : v ≡ Figure R) (longest : LongestIs ca s end below below')
+        module _ {R below' : ℕ} {made' ca' ta' ja' ea' ka' : List ℕ} (q : v ≡ Some R) (longest : LongestIs ca s end below below')
             (six : SixTurned s end top made ca ta ja ea ka made' ca' ta' ja' ea' ka') where
           se : s ≤ end
           se = omega arith
@@ -165,5 +164,5 @@ module _ (n : ℕ) (c t j e key : List ℕ) where
                     subst₂ (λ (x y : List ℕ). Before n c t j e key x y (top - (end - s)) (tried + (bands + 1)) below') (sym front) (sym back)
                     (before_next n c t j e key k.state next (top - (end - s)) below' held.lengths.few (omega (arith, ends))
                     (longest_now n c t j e key k.state next ca ta ja ea (in_front c ca k.aligned.along_c) (in_front t ta k.aligned.along_t) (in_front j ja k.aligned.along_j) (in_front e ea k.aligned.along_e) end ends longest)
-                    (figure_fits _ _ _ (verdict (Figure R) q)));
+                    (figure_fits _ _ _ (verdict (Some R) q)));
               })

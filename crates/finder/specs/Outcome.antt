@@ -1,25 +1,25 @@
 -- What follows from the statement of finding: it leaves room for a single outcome, what is found is an order that passes, 'no order' is said
 -- exactly where there is none, and at most how many bands are tried. The promises are here, their proofs in proofs/Outcome.
 -- Assumes nothing.
-use Rattle.std.specs.Prelude.{ℕ, suc, ◌*◌, ◌≤◌, ◌≡◌, ◌⊎◌, ◌↔◌, List, ◌++◌, length, drop}
+use Rattle.std.specs.Prelude.{ℕ, suc, ◌*◌, ◌≤◌, ◌≡◌, ◌⊎◌, ◌↔◌, List, ◌++◌, length, drop, Result}
 use Rattle.sums.specs.Sums.{count}
 use Rattle.order.specs.Table.{Table}
 use Rattle.order.specs.Orders.{Order, Together, AllPass, HasOrder, Ranked}
 use Rattle.intake.specs.Words.{rows, table_of}
 use Rattle.intake.specs.Answer.{Answer, fine}
 use Rattle.intake.specs.Refusals.{table_refusal}
+use Rattle.intake.specs.declared.Refusal.{Refusal}
 use Rattle.finder.specs.Placing.{leads}
 use Rattle.finder.specs.Searched.{finding_answer, Searched}
-use Rattle.finder.specs.declared.Finding.{Finding}
 
 -- For any table and lent list, the statement of finding allows no two answers and no two lists afterwards.
 abbrev pub OneOutcome : Type 0
 OneOutcome = (words before after after' : List ℕ) (a a' : Answer)
     → Searched words before after a → Searched words before after' a' → (a ≡ a') × (after ≡ after')
 
--- The same of the enum that `find` answers.
+-- The same of what `find` answers.
 abbrev pub OneFinding : Type 0
-OneFinding = (words before after after' : List ℕ) (r r' : Finding)
+OneFinding = (words before after after' : List ℕ) (r r' : Result ℕ Refusal)
     → Searched words before after (finding_answer r) → Searched words before after' (finding_answer r') → (r ≡ r') × (after ≡ after')
 
 -- the lent list has an order in its first n places, and behind them what it had: each row stands once, queues are kept together with their

@@ -1,7 +1,7 @@
--- What the functions of this crate answer. The rows of a table stand in one list, `made`: before place `top` those not placed, band by band,
--- and from there on those placed. The columns stand along it. Definitions only.
+-- What the functions of this crate answer. The rows' places in the table stand in one list, `made`: before place `top` those not placed, band by
+-- band, and from there on those placed. The rows stand along it. Definitions only.
 -- Assumes nothing.
-use Rattle.std.specs.Prelude.{ℕ, ◌+◌, ◌-◌, ◌≤◌, ◌<◌, ◌≡◌, not, cond, List, [], ◌∷◌, ◌++◌, length, eqb, ltb}
+use Rattle.std.specs.Prelude.{ℕ, ◌+◌, ◌-◌, ◌≤◌, ◌<◌, ◌≡◌, not, cond, List, [], ◌∷◌, ◌++◌, length, get_or, eqb, ltb}
 use Rattle.sums.specs.Masks.{Mask}
 use Rattle.sums.specs.Columns.{at}
 use Rattle.licence.specs.Limit.{limit}
@@ -41,9 +41,9 @@ pub record RunEnds (key : List ℕ) (s top e : ℕ) : Type 0 where
 unfoldable pub turned : (s e top p : ℕ) → ℕ
 turned s e top p = cond (ltb p s) p (cond (ltb (p + (e - s)) top) (p + (e - s)) (cond (ltb p top) (s + (p + (e - s) - top)) p))
 
-pub record Turned (s e top : ℕ) (list list' : List ℕ) : Type 0 where
+pub record Turned {A : Type 0} (s e top : ℕ) (list list' : List A) : Type 0 where
   pub long : length list' ≡ length list
-  pub moved : (p : ℕ) → at list' p ≡ at list (turned s e top p)
+  pub moved : (p : ℕ) (d : A) → get_or list' p d ≡ get_or list (turned s e top p) d
 
 -- the run goes behind in all six
 pub record SixTurned (s e top : ℕ) (made c t j a key made' c' t' j' a' key' : List ℕ) : Type 0 where

@@ -1,6 +1,6 @@
 -- What the desk replies, as document 01 and the requests after it number it, and checks that run one after the other. Definitions only.
 -- Assumes nothing.
-use Rattle.std.specs.Prelude.{ℕ, ◌≡◌, Bool, true, false}
+use Rattle.std.specs.Prelude.{ℕ, ◌≡◌, Bool, true, false, Result, Ok, Err}
 use Rattle.sums.specs.Masks.{Place, at, nowhere}
 use Rattle.intake.specs.declared.Refusal.{Refusal}
 use Rattle.intake.specs.declared.Refusal.TheVariants.{Ragged, TooMany, BadRow, NoRoom, OrderLength, OrderEntry, SplitQueue, NoOrder, Closed, OtherEdition, NoSuchRow, EmptyBook, BookLength, BookOffset, BadLedger}
@@ -36,6 +36,11 @@ refusal_answer EmptyBook = answer 20 0 0
 refusal_answer BookLength = answer 21 0 0
 refusal_answer (BookOffset row) = answer 22 row 0
 refusal_answer BadLedger = answer 23 0 0
+
+-- what a call answers: its own number with what it tells, or a refusal's
+abbrev pub told_as : (number : ℕ) → Result ℕ Refusal → Answer
+told_as number (Ok told) = answer number told 0
+told_as number (Err r) = refusal_answer r
 
 -- a check refuses, or goes on
 pub data Check : Type 0 where

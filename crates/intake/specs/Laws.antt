@@ -1,6 +1,6 @@
 -- When each of the refusals 1 to 4 is given, and what a table that none refuses is known to be.
 -- Assumes nothing.
-use Rattle.std.specs.Prelude.{ℕ, ◌*◌, ◌%◌, ◌≤◌, ◌<◌, Bool, ◌||◌, List, T as Is, ltb}
+use Rattle.std.specs.Prelude.{ℕ, ◌*◌, ◌%◌, ◌≤◌, ◌<◌, Bool, ◌||◌, List, T as Is, ltb, take, Result, Ok, Err, ⊤}
 use Rattle.std.proofs.Common.{arith, subst, ◌∙◌, eqb→eq, T_not}
 use Rattle.std.proofs.Math.Path.{◌≡◌, refl, sym}
 use Rattle.std.proofs.Math.Bool.{true, false, not}
@@ -14,10 +14,10 @@ use Rattle.licence.specs.Row.{bad_field}
 use Rattle.intake.specs.Words.{ragged, rows, bad_row, table_of}
 use Rattle.intake.specs.Answer.{answer, refusal_answer, Answer, Check, refused, fine, refuse_if, refuse_at, ◌then◌, Replied}
 use Rattle.intake.specs.Refusals.{shape_refusal, table_refusal}
-use Rattle.intake.specs.Holds.{Holds, RowsRead, Counted, TakenIn, IntakeIs}
+use Rattle.intake.specs.Holds.{Holds, RowsRead, Counted, Taken, IntakeIs}
 use Rattle.intake.specs.declared.Refusal.{Refusal}
-use Rattle.intake.specs.declared.Intake.{Intake}
-use Rattle.intake.specs.declared.Intake.TheVariants.{Rows, Refused}
+use Rattle.sums.specs.Terms.{lengths, periods, jitters, allowed, keys}
+use Rattle.sums.specs.declared.Terms.{Terms}
 
 -- checks that go on were each fine
 pub then_fine : (a b : Check) → (a then b) ≡ fine → (a ≡ fine) × (b ≡ fine)
@@ -161,24 +161,26 @@ module _ (words : List ℕ) (room : ℕ) where
 
 -- ---- what code asks of an answer
 
-pub rows_all : (words : List ℕ) (n : ℕ) (c t j e key : List ℕ) {r : Intake} {m : ℕ} → RowsRead words n c t j e key r → r ≡ Rows m → (m ≡ n) × (lowest n (bad_row words) ≡ nowhere) × Holds (table_of words) n c t j e key
-rows_all words n c t j e key h q = subst (RowsRead words n c t j e key) q h
+pub rows_all : (words : List ℕ) (held : List Terms) {r : Result ⊤ Refusal} {done : ⊤} → RowsRead words held r → r ≡ Ok done
+    → (lowest (length held) (bad_row words) ≡ nowhere) × Holds (table_of words) (length held) (lengths held) (periods held) (jitters held) (allowed held) (keys held)
+rows_all words held h q = subst (RowsRead words held) q h
 
-pub rows_refused : (words : List ℕ) (n : ℕ) (c t j e key : List ℕ) {r : Intake} {x : Refusal} → RowsRead words n c t j e key r → r ≡ Refused x → (i : ℕ) × (lowest n (bad_row words) ≡ at i) × (refusal_answer x ≡ answer 3 i (bad_field words i))
-rows_refused words n c t j e key h q = subst (RowsRead words n c t j e key) q h
+pub rows_refused : (words : List ℕ) (held : List Terms) {r : Result ⊤ Refusal} {x : Refusal} → RowsRead words held r → r ≡ Err x
+    → (i : ℕ) × (lowest (length held) (bad_row words) ≡ at i) × (refusal_answer x ≡ answer 3 i (bad_field words i))
+rows_refused words held h q = subst (RowsRead words held) q h
 
-pub counted_rows : (words : List ℕ) {r : Intake} {n : ℕ} → Counted words r → r ≡ Rows n → (shape_refusal words ≡ fine) × (n ≡ rows words)
+pub counted_rows : (words : List ℕ) {r : Result ℕ Refusal} {n : ℕ} → Counted words r → r ≡ Ok n → (shape_refusal words ≡ fine) × (n ≡ rows words)
 counted_rows words h q = subst (Counted words) q h
 
-pub counted_refused : (words : List ℕ) {r : Intake} {x : Refusal} → Counted words r → r ≡ Refused x → shape_refusal words ≡ refused (refusal_answer x)
+pub counted_refused : (words : List ℕ) {r : Result ℕ Refusal} {x : Refusal} → Counted words r → r ≡ Err x → shape_refusal words ≡ refused (refusal_answer x)
 counted_refused words h q = subst (Counted words) q h
 
 -- words that are no table are none to take in either
-pub counted_out : (words : List ℕ) (room : ℕ) (c t j e key : List ℕ) {r : Intake} {x : Refusal} → Counted words r → r ≡ Refused x → IntakeIs words room c t j e key r
-counted_out words room c t j e key h q = subst (IntakeIs words room c t j e key) (sym q) (refuse_shape words room (counted_refused words h q))
+pub counted_out : (words : List ℕ) (room : ℕ) (places : List Terms) {r : Result ℕ Refusal} {x : Refusal} → Counted words r → r ≡ Err x → IntakeIs words room places r
+counted_out words room places h q = subst (IntakeIs words room places) (sym q) (refuse_shape words room (counted_refused words h q))
 
-pub taken_in : (words : List ℕ) (room : ℕ) (c t j e key : List ℕ) {r : Intake} {n : ℕ} → IntakeIs words room c t j e key r → r ≡ Rows n → TakenIn words room n c t j e key
-taken_in words room c t j e key h q = subst (IntakeIs words room c t j e key) q h
+pub taken_in : (words : List ℕ) (room : ℕ) (places : List Terms) {r : Result ℕ Refusal} {n : ℕ} → IntakeIs words room places r → r ≡ Ok n → (n ≤ length places) × Taken words room (take n places)
+taken_in words room places h q = subst (IntakeIs words room places) q h
 
-pub taken_refused : (words : List ℕ) (room : ℕ) (c t j e key : List ℕ) {r : Intake} {x : Refusal} → IntakeIs words room c t j e key r → r ≡ Refused x → table_refusal words room ≡ refused (refusal_answer x)
-taken_refused words room c t j e key h q = subst (IntakeIs words room c t j e key) q h
+pub taken_refused : (words : List ℕ) (room : ℕ) (places : List Terms) {r : Result ℕ Refusal} {x : Refusal} → IntakeIs words room places r → r ≡ Err x → table_refusal words room ≡ refused (refusal_answer x)
+taken_refused words room places h q = subst (IntakeIs words room places) q h

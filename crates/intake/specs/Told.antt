@@ -1,11 +1,11 @@
 -- Each refusal has an answer of its own: the refusal can be told from it. And no check refuses with a number past its own.
 -- Assumes nothing.
-use Rattle.std.specs.Prelude.{ℕ, ◌≤◌, ◌<◌, ◌≡◌, refl, Bool, true, false, cond, List, eqb}
-use Rattle.std.proofs.Common.{le_trans, arith, sym, ap, subst, ◌∙◌, lit≤, lit<, ne_eqb, le-ltb}
+use Rattle.std.specs.Prelude.{ℕ, ◌≤◌, ◌<◌, ◌≡◌, refl, Bool, true, false, cond, List, eqb, Result, Ok, Err, IsOk}
+use Rattle.std.proofs.Common.{le_trans, arith, sym, ap, subst, ◌∙◌, lit≤, lit<, eq-eqb, ne_eqb, le-ltb}
 use Rattle.sums.specs.Masks.{Place, at, nowhere, lowest}
 use Rattle.licence.specs.Row.{bad_field}
 use Rattle.intake.specs.Words.{rows, bad_row}
-use Rattle.intake.specs.Answer.{Answer, answer, refusal_answer, Check, refused, fine, refuse_if, refuse_at, ◌then◌, Replied}
+use Rattle.intake.specs.Answer.{Answer, answer, refusal_answer, told_as, Check, refused, fine, refuse_if, refuse_at, ◌then◌, Replied}
 use Rattle.intake.specs.Refusals.{shape_refusal, table_refusal}
 use Rattle.intake.specs.declared.Refusal.{Refusal}
 use Rattle.intake.specs.declared.Refusal.TheVariants.{Ragged, TooMany, BadRow, NoRoom, OrderLength, OrderEntry, SplitQueue, NoOrder, Closed, OtherEdition, NoSuchRow, EmptyBook, BookLength, BookOffset, BadLedger}
@@ -69,6 +69,22 @@ refusal_small BadLedger = lit< tt
 
 pub not_refusal : (r : Refusal) (n : ℕ) → 100 ≤ n → eqb (refusal_answer r).number n ≡ false
 not_refusal r n l = ne_eqb (refusal_answer r).number n (λ e. omega (arith, refusal_small r))
+
+-- the result that an answer tells, for a call whose own number this is: where the call answers so, it is its result
+unfoldable pub told_result : (number : ℕ) → Answer → Result ℕ Refusal
+told_result number a = cond (eqb a.number number) (Ok a.first) (Err (told_refusal a))
+
+pub told_result_lem : (number : ℕ) → 100 ≤ number → (r : Result ℕ Refusal) → told_result number (told_as number r) ≡ r
+unfolding told_result
+told_result_lem number l (Ok x) = rw (eq-eqb number number refl)
+told_result_lem number l (Err r) = rw (not_refusal r number l, told_refusal_lem r)
+
+-- what a call answers is of one result, and where that is Ok, of one number
+pub told_as_one : (number number' : ℕ) → 100 ≤ number → 100 ≤ number' → (r r' : Result ℕ Refusal) → told_as number r ≡ told_as number' r' → (r ≡ r') × (IsOk r → number ≡ number')
+told_as_one number number' l l' (Ok x) (Ok x') same = (let e = ap (λ (a : Answer). a.first) same in cc, λ h. ap (λ (a : Answer). a.number) same)
+told_as_one number number' l l' (Ok x) (Err r) same = absurd (omega (arith, refusal_small r, ap (λ (a : Answer). a.number) same))
+told_as_one number number' l l' (Err r) (Ok x) same = absurd (omega (arith, refusal_small r, ap (λ (a : Answer). a.number) same))
+told_as_one number number' l l' (Err r) (Err r') same = (let e = told_one refusal_answer told_refusal told_refusal_lem same in cc, λ h. cc)
 
 -- ---- the numbers of the checks
 

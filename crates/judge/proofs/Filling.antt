@@ -1,69 +1,95 @@
--- The walk that writes what stands for each row: the columns along the order, one run more in the lent list, and the list when all are judged.
+-- The walk that writes what stands for each row: the rows along the order, one run more in the lent list, and the list when all are judged.
 -- Assumes nothing.
+use Rattle.std.specs.Prelude.{Option}
 use Prim.Native.Nat.{ℕ, ◌-◌, ◌≤◌, ◌<◌}
 use native.Mathlib.Nat.{le_refl}
 use native.Mathlib.Decide.{dec_lt}
 use native.Mathlib.Omega.{arith}
 use mathlib.Core.Path.{◌≡◌, refl, sym, subst, ◌∙◌}
 use mathlib.Core.List.{List}
-use lib.ListN.{length}
+use lib.ListN.{length, take}
 use Rattle.sums.specs.Masks.{run, None}
 use Rattle.sums.specs.Sums.{max_over}
 use Rattle.sums.specs.Columns.{at}
-use Rattle.order.specs.Orders.{bad_entry}
-use Rattle.order.specs.Split.{entry_range, entry_new}
-use Rattle.order.specs.Sheet.{sheet, Room, AlignedIn, Aligned, RunVerdict}
-use Rattle.order.specs.Columns.{rates_along, lengths_along}
-use Rattle.order.specs.declared.Verdict.{Verdict}
-use Rattle.intake.specs.Held.{Held, held_room}
+use Rattle.sums.specs.ColumnLaws.{columns_part}
+use Rattle.sums.specs.TermLaws.{at_part}
+use Rattle.sums.specs.Terms.{lengths, periods, jitters, allowed, keys}
+use Rattle.sums.specs.declared.Terms.{Terms}
+use Rattle.order.specs.Orders.{bad_entry, Together}
+use Rattle.order.specs.Parts.{count_part}
+use Rattle.order.specs.Split.{entry_new}
+use Rattle.order.specs.Sheet.{sheet_of, Room, Aligned, Placed, RunIn, RunVerdict}
+use Rattle.order.specs.Columns.{lengths_part, rates_along, lengths_along, room_of, aligned_rows}
+use Rattle.intake.specs.Held.{HeldRows}
 use Rattle.judge.specs.Judged.{Written}
-use Rattle.judge.specs.Walk.{InRange, Sound, shown_as, RunStarts, PutFor, Laid, ShownRun, FilledFrom}
+use Rattle.judge.specs.Walk.{InRange, NoneBad, Sound, shown_as, RunStarts, PutFor, Laid, LaidRows, ShownRun, FilledFrom, FilledRows}
 use Rattle.judge.proofs.Runs.{shown_there}
 
-pub in_range : {n : ℕ} {c t j e key order : List ℕ} → Held n c t j e key → length order ≡ n → None n (bad_entry n order) → InRange n order
-in_range {n} {order = order} h count entries = record { few = h.lengths.few; count = count; range = λ p l. entry_range n order p (entries p l) }
+-- ---- the rows along the order
 
--- ---- the columns along the order
+module _ (rows : List Terms) {order : List ℕ} (held : HeldRows rows) (range : InRange (length order) order) (distinct : NoneBad order) (whole : length order ≡ length rows) (together : Together (sheet_of rows) order) where
+  row : (p : ℕ) → p < length order → at order p < length rows
+  row p l = omega (arith, whole, range.range p l)
 
-module _ {n : ℕ} {c t j e key order : List ℕ} (held : Held n c t j e key) (sound : Sound n (sheet n c t j e key) order) where
-  row : (p : ℕ) → p < n → at order p < n
-  row p l = entry_range n order p (sound.entries p l)
+  sound : Sound (length rows) (sheet_of rows) order
+  sound = record { count = whole; entries = rw whole at distinct; together = together }
 
-  pub aligned_in : {c' t' j' e' key' : List ℕ} → Room n c' t' j' e' key' → AlignedIn n c t j e key order c' t' j' e' key'
-  aligned_in room = record { columns = held_room held; room = room; long_order = omega (arith, sound.count); range = row }
+  module _ (along : List Terms) (count : length along ≡ length rows) (placed : Placed rows order along) where
+    aligned : Aligned (length rows) (lengths rows) (periods rows) (jitters rows) (allowed rows) (keys rows) order (lengths along) (periods along) (jitters along) (allowed along) (keys along)
+    aligned =
+        subst (λ (m : ℕ). Aligned m (lengths rows) (periods rows) (jitters rows) (allowed rows) (keys rows) order (lengths along) (periods along) (jitters along) (allowed along) (keys along))
+        sound.count (aligned_rows rows order along row (omega (arith, count, sound.count)) placed)
 
-  module _ {c' t' j' e' key' : List ℕ} (along : Aligned n c t j e key order c' t' j' e' key') where
-    pub laid : Room n c' t' j' e' key' → Laid n c' t' j' e' key' order
-    laid room =
-        record {
-          rates = rates_along along (le_refl n) row room held.rates;
-          lengths = lengths_along along (le_refl n) row room held.lengths;
+    pub laid : LaidRows along
+    laid =
+        let room = subst (λ (m : ℕ). Room m (lengths along) (periods along) (jitters along) (allowed along) (keys along)) count (room_of along) in
+        let in_rows = λ (p : ℕ) (l : p < length rows). row p (omega (arith, sound.count)) in
+        subst (λ (m : ℕ). Laid m (lengths along) (periods along) (jitters along) (allowed along) (keys along)) (sym count)
+        (record {
+          rates = rates_along aligned (le_refl (length rows)) in_rows room held.rates;
+          lengths = lengths_along aligned (le_refl (length rows)) in_rows room held.lengths;
           long_key = room.long_key;
-          range = in_range held sound.count sound.entries;
-          entries = sound.entries;
-        }
+        })
 
-    pub written : {before after : List ℕ} → FilledFrom n c' t' j' e' key' order before after 0 → Written (sheet n c t j e key) order before after
-    written f =
+    pub written : {before after : List ℕ} → FilledRows along order before after 0 → Written (sheet_of rows) order before after
+    written {before} {after} filled =
+        let f = subst (λ (m : ℕ). FilledFrom m (lengths along) (periods along) (jitters along) (allowed along) (keys along) order before after 0) count filled in
         record {
           same_length = f.same_length;
           beyond = λ i l. f.beyond i (omega arith);
-          figures = λ p l. shown_there (sheet n c t j e key) order sound along.along_c along.along_t along.along_j along.along_e along.along_key (f.shown p (omega arith) l);
+          figures = λ p l. shown_there (sheet_of rows) order sound aligned.along_c aligned.along_t aligned.along_j aligned.along_e aligned.along_key (f.shown p (omega arith) l);
         }
 
 -- ---- one run more
+
+-- the last run of the first places starts where the run that ends there does
+pub starts_part : (rows : List Terms) (n : ℕ) → n ≤ length rows → {s : ℕ} → RunStarts (keys (take n rows)) (length (take n rows)) s → RunStarts (keys rows) n s
+starts_part rows n l {s} h =
+    let count = count_part rows n l in
+    let same = λ (k : ℕ) (b : k < n). at_part (λ row. row.key) rows n k b in
+    let some : s < n = omega (arith, h.some, count) in
+    record {
+      some = some;
+      one = λ p a b. sym (same p b) ∙ h.one p a (omega (arith, count)) ∙ same s some;
+      first = λ a z. h.first a (same (s - 1) (omega arith) ∙ z ∙ sym (same s some));
+    }
+
+-- a run that ends at place e may be judged
+pub run_there : {n : ℕ} {c t j a key : List ℕ} {s e below : ℕ} → Laid n c t j a key → s < e → e ≤ n → below ≤ 4096 → RunIn e c t j a s e below
+run_there h some inside short =
+    record { rates = columns_part inside h.rates; lengths = lengths_part inside h.lengths; some = some; inside = le_refl _; short = short }
 
 module _ {n : ℕ} {c t j a key order before : List ℕ} where
   pub filled_none : FilledFrom n c t j a key order before before n
   filled_none = record { same_length = refl; beyond = λ i l. refl; shown = λ p l b. absurd (omega arith) }
 
-  module _ {after after' : List ℕ} {s e : ℕ} (laid : Laid n c t j a key order) (inside : e ≤ n) (f : FilledFrom n c t j a key order before after e) where
-    pub filled_next : RunStarts key e s → (e < n → 0 < e → at key (e - 1) ≡ at key e → ⊥) → (v : Verdict) {b R : ℕ} → b ≡ max_over n (run e n) (at c) → RunVerdict e c t j a s e b v → R ≡ shown_as v
+  module _ {after after' : List ℕ} {s e : ℕ} (range : InRange n order) (distinct : None n (bad_entry n order)) (inside : e ≤ n) (f : FilledFrom n c t j a key order before after e) where
+    pub filled_next : RunStarts key e s → (e < n → 0 < e → at key (e - 1) ≡ at key e → ⊥) → (v : Option ℕ) {b R : ℕ} → b ≡ max_over n (run e n) (at c) → RunVerdict e c t j a s e b v → R ≡ shown_as v
         → PutFor order s e R after after' → FilledFrom n c t j a key order before after' s
     filled_next starts last v {b} {R} longest judged is put =
         record {
           same_length = put.same_length ∙ f.same_length;
-          beyond = λ i l. put.kept i (λ q h k z. omega (arith, laid.range.range q (omega arith))) ∙ f.beyond i l;
+          beyond = λ i l. put.kept i (λ q h k z. omega (arith, range.range q (omega arith))) ∙ f.beyond i l;
           shown = λ p l h. go p l h (dec_lt p e);
         }
       where
@@ -82,4 +108,4 @@ module _ {n : ℕ} {c t j a key order before : List ℕ} where
               is = put.put p l d ∙ is;
             }
         go p l h (no d) =
-            subst (ShownRun n c t j a key p) (sym (put.kept (at order p) (λ q i k z. entry_new n order p (laid.entries p h) q (omega arith) z))) (f.shown p (omega arith) h)
+            subst (ShownRun n c t j a key p) (sym (put.kept (at order p) (λ q i k z. entry_new n order p (distinct p h) q (omega arith) z))) (f.shown p (omega arith) h)

@@ -1,8 +1,8 @@
 -- Laws that the proofs of this crate cite. Assumes nothing.
-mod Entries
+mod Tests
 mod Runs
+mod OneKey
 mod Filling
 mod Checks
 mod Joined
-mod OneKey
 pub mod Outcome

@@ -1,6 +1,6 @@
 -- The promises of specs/Outcome are kept.
 -- Assumes nothing.
-use Rattle.std.specs.Prelude.{ℕ, ◌≤◌, ◌<◌, ◌≡◌, refl, ◌⊎◌, ◌↔◌, cond, List, length, eqb}
+use Rattle.std.specs.Prelude.{ℕ, ◌≤◌, ◌<◌, ◌≡◌, refl, ◌⊎◌, ◌↔◌, cond, Option, Some, None, Result, Ok, Err, List, length, eqb}
 use Rattle.std.proofs.Math.Decide.{dec_lt}
 use Rattle.std.proofs.Common.{arith, sym, ap, ◌∙◌, subst, inl, inr, ext_get_or, lit≤}
 use Rattle.std.proofs.Math.Dec.{eqb_refl}
@@ -13,8 +13,7 @@ use Rattle.intake.specs.Answer.{Answer, answer}
 use Rattle.judge.specs.Judged.{judgement_answer, order_refusal, refusal, LateAt, ShownAt, Written, AllPassed, SomeLate}
 use Rattle.intake.specs.Laws.{replied_one}
 use Rattle.intake.specs.Told.{told_refusal, told_refusal_lem, not_refusal, Small, then_numbers, if_numbers, at_numbers, wider_small, number_has, told_one, replied_fine, table_small}
-use Rattle.judge.specs.declared.Judgement.{Judgement}
-use Rattle.judge.specs.declared.Judgement.TheVariants.{Passed, Late, Refused}
+use Rattle.intake.specs.declared.Refusal.{Refusal}
 use Rattle.judge.specs.Fine.{fine_order, some_bits, entry_row, place_of_lem}
 use Rattle.judge.specs.Outcome.{OneJudgement, OneOutcome, PassedMeans, PassingAnswered, RefusedSmall, ZeroExactlyLate}
 
@@ -79,15 +78,15 @@ pub one_outcome : OneOutcome
 one_outcome words order before after after' a a' j j' =
     replied_one j j' (λ e x y. (one_verdict (table_of words) order x.verdict y.verdict, one_list (table_of words) order (place_of_lem (fine_order words order (length before) e)) x.written y.written))
 
--- each case of the enum has an answer of its own
-told : Answer → Judgement
-told a = cond (eqb a.number 100) Passed (cond (eqb a.number 101) (Late a.first) (Refused (told_refusal a)))
+-- each case of the reply has an answer of its own
+told : Answer → Result (Option ℕ) Refusal
+told a = cond (eqb a.number 100) (Ok None) (cond (eqb a.number 101) (Ok (Some a.first)) (Err (told_refusal a)))
 
-told_answer : (r : Judgement) → told (judgement_answer r) ≡ r
+told_answer : (r : Result (Option ℕ) Refusal) → told (judgement_answer r) ≡ r
 unfolding told
-told_answer Passed = refl
-told_answer (Late p) = refl
-told_answer (Refused r) = rw (not_refusal r 100 (lit≤ tt), not_refusal r 101 (lit≤ tt), told_refusal_lem r)
+told_answer (Ok None) = refl
+told_answer (Ok (Some p)) = refl
+told_answer (Err r) = rw (not_refusal r 100 (lit≤ tt), not_refusal r 101 (lit≤ tt), told_refusal_lem r)
 
 pub one_judgement : OneJudgement
 one_judgement words order before after after' r r' j j' =

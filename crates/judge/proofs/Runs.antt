@@ -1,5 +1,6 @@
 -- The whole run of one key that a place is of, in an order that keeps queues together: its places are those of the band, the places before it
 -- those above and the places behind it those below. So what is shown for a run stands for its rows. Assumes nothing.
+use Rattle.std.specs.Prelude.{Option, Some, None}
 use Prim.Native.Nat.{ℕ, suc, ◌-◌, ◌≤◌, ◌<◌}
 use native.Mathlib.Decide.{dec_lt}
 use native.Mathlib.Nat.{eq-or-lt_of_le}
@@ -25,15 +26,13 @@ use Rattle.order.specs.Split.{order_of}
 use Rattle.order.specs.Bands.{band_intro}
 use Rattle.order.specs.Sheet.{VerdictIs, RunVerdict}
 use Rattle.order.specs.Arranged.{own_max, run_verdict}
-use Rattle.order.specs.declared.Verdict.{Verdict}
-use Rattle.order.specs.declared.Verdict.TheVariants.{Figure, Late}
 use Rattle.judge.specs.Judged.{ShownAt}
 use Rattle.judge.specs.Walk.{Sound, shown_as, ShownRun}
 
 -- the figure, or 0 for a late band
-shows : (F : ℕ → ℕ) (m e : ℕ) (v : Verdict) → VerdictIs F m e v → FigureIs F m e (shown_as v) ⊎ ((Fits F m e → ⊥) × (shown_as v ≡ 0))
-shows F m e (Figure R) h = inl h
-shows F m e Late h = inr (h, refl)
+shows : (F : ℕ → ℕ) (m e : ℕ) (v : Option ℕ) → VerdictIs F m e v → FigureIs F m e (shown_as v) ⊎ ((Fits F m e → ⊥) × (shown_as v ≡ 0))
+shows F m e (Some R) h = inl h
+shows F m e None h = inr (h, refl)
 
 -- the columns stand along the order, and R for place p
 module _ (τ : Table) (o : List ℕ) (sound : Sound τ.n τ o) {c t j a keys : List ℕ} (is_C : (q : ℕ) → q < τ.n → at c q ≡ τ.C (at o q)) (is_T : (q : ℕ) → q < τ.n → at t q ≡ τ.T (at o q))

@@ -1,6 +1,6 @@
 -- The reply table of judging, whole: what is refused, and else the verdict and every word of the lent list. Definitions only.
 -- Assumes nothing.
-use Rattle.std.specs.Prelude.{ℕ, ◌≤◌, ◌<◌, ◌≡◌, ◌⊎◌, not, List, length, eqb}
+use Rattle.std.specs.Prelude.{ℕ, ◌≤◌, ◌<◌, ◌≡◌, ◌⊎◌, not, Option, Some, None, Result, Ok, Err, List, length, eqb}
 use Rattle.sums.specs.Masks.{lowest}
 use Rattle.sums.specs.Columns.{at}
 use Rattle.order.specs.Table.{Table}
@@ -8,14 +8,13 @@ use Rattle.order.specs.Orders.{bad_entry, resumes, PassesAt, FigureAt}
 use Rattle.intake.specs.Words.{table_of}
 use Rattle.intake.specs.Answer.{Answer, answer, refusal_answer, Check, refuse_if, refuse_at, ◌then◌, Replied}
 use Rattle.intake.specs.Refusals.{table_refusal}
-use Rattle.judge.specs.declared.Judgement.{Judgement}
-use Rattle.judge.specs.declared.Judgement.TheVariants.{Passed, Late, Refused}
+use Rattle.intake.specs.declared.Refusal.{Refusal}
 
 -- the number and the carried values of each case: passed 100, late 101 with the first late position, a refusal as its own
-abbrev pub judgement_answer : Judgement → Answer
-judgement_answer Passed = answer 100 0 0
-judgement_answer (Late place) = answer 101 place 0
-judgement_answer (Refused r) = refusal_answer r
+abbrev pub judgement_answer : Result (Option ℕ) Refusal → Answer
+judgement_answer (Ok None) = answer 100 0 0
+judgement_answer (Ok (Some place)) = answer 101 place 0
+judgement_answer (Err r) = refusal_answer r
 
 -- the checks of an order: 5 not n entries; 6 the first that is out of range or a repeat; 7 the first that resumes a FIFO already left
 unfoldable pub order_refusal : Table → (order : List ℕ) → Check

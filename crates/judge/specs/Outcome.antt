@@ -1,13 +1,13 @@
 -- What follows from the statement of judging: it leaves room for a single outcome, 0 stands for late rows and for no others, and 'passed'
 -- is answered exactly where every band passes. The promises are here, their proofs in proofs/Outcome.
 -- Assumes nothing.
-use Rattle.std.specs.Prelude.{ℕ, ◌≤◌, ◌<◌, ◌≡◌, ◌↔◌, List, length}
+use Rattle.std.specs.Prelude.{ℕ, ◌≤◌, ◌<◌, ◌≡◌, ◌↔◌, Option, Result, List, length}
 use Rattle.sums.specs.Columns.{at}
 use Rattle.order.specs.Orders.{FigureAt, AllPass}
 use Rattle.intake.specs.Words.{rows, table_of}
 use Rattle.intake.specs.Answer.{Answer, answer, refused, fine}
 use Rattle.judge.specs.Judged.{judgement_answer, refusal, LateAt, Written, Judged}
-use Rattle.judge.specs.declared.Judgement.{Judgement}
+use Rattle.intake.specs.declared.Refusal.{Refusal}
 use Rattle.judge.specs.Fine.{Fine}
 
 -- For any table, order and lent list, the statement of judging allows no two answers and no two lists afterwards.
@@ -15,9 +15,9 @@ abbrev pub OneOutcome : Type 0
 OneOutcome = (words order before after after' : List ℕ) (a a' : Answer)
     → Judged words order before after a → Judged words order before after' a' → (a ≡ a') × (after ≡ after')
 
--- The same of the enum that `judge` answers.
+-- The same of what `judge` answers.
 abbrev pub OneJudgement : Type 0
-OneJudgement = (words order before after after' : List ℕ) (r r' : Judgement)
+OneJudgement = (words order before after after' : List ℕ) (r r' : Result (Option ℕ) Refusal)
     → Judged words order before after (judgement_answer r) → Judged words order before after' (judgement_answer r') → (r ≡ r') × (after ≡ after')
 
 -- Where nothing is refused, the row at a place has the word 0 exactly if its band is late.

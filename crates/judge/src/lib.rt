@@ -1,261 +1,157 @@
-// Judges a given priority order.
-#![tactic(auto)]
+// Judges a given priority order. Its lists have the limit's length and stand on the stack: nothing is allocated.
+#![tactic(auto, unfolding(licence::specs::Limit::limit))]
 
-ghost use Rattle.std.specs.Prelude.{◌≡◌, ◌-◌, ◌+◌, ◌≤◌, ◌<◌, length};
+ghost use Rattle.std.specs.Prelude.{◌≡◌, ◌≤◌, ◌<◌, length, IfOk, IfErr};
 ghost use Rattle.sums.specs.Masks.{lowest};
 ghost use Rattle.sums.specs.Columns.{at};
+ghost use Rattle.sums.specs.Terms.{keys};
 ghost use Rattle.licence.specs.Limit.{limit};
-ghost use Rattle.order.specs.Orders.{bad_entry, resumes};
-ghost use Rattle.order.specs.Marks.{Marked};
-ghost use Rattle.order.specs.Sheet.{sheet};
-ghost use Rattle.intake.specs.Held.{Keyed, Held};
+ghost use Rattle.order.specs.Orders.{resumes, Together};
+ghost use Rattle.order.specs.Sheet.{sheet_of};
+ghost use Rattle.intake.specs.Held.{Keyed, HeldRows};
 ghost use Rattle.judge.specs.Judged.{judgement_answer, Written, Judged};
-ghost use Rattle.judge.specs.Walk.{place_of, InRange, Sound, shown_as, zero_at, RunStarts, PutFor, Laid, FilledFrom, OrderJudged};
+ghost use Rattle.judge.specs.Walk.{place_of, InRange, NoneBad, FirstBad, zero_at, RunStarts, PutFor, LaidRows, FilledRows, OrderJudged};
 
-// The answer to an order, or why it is refused.
-#[derive(Clone, Copy)]
-pub enum Judgement {
-    Passed,
-    // The first late position.
-    Late(u32),
-    Refused(intake::Refusal),
-}
+use intake::Refusal;
+use sums::{Run, Terms};
 
-// The first place that a search looks for, if there is one.
-#[derive(Clone, Copy)]
-pub enum Found {
-    At(u32),
-    Nowhere,
-}
-
-// The first position out of range or a repeat.
-fn first_bad_entry(order: &[u32], n: usize) -> Found
-    requires { (n ≤ limit) × (n ≤ length order.now) }
-    ensures { place_of result ≡ lowest n (bad_entry n order.now) }
+// Where the last run of one key starts.
+fn run_start(along: &[Terms]) -> usize
+    requires { 0 < length along.now }
+    ensures { RunStarts (keys along.now) (length along.now) result }
 {
-    let mut used = [0u32; licence::LIMIT];
-    let mut p: usize = 0;
-    while p < n {
-        let m = order::index(order[p]);
-        if n <= m {
-            return Found::At(p as u32);
-        }
-        if used[m] == 1 {
-            return Found::At(p as u32);
-        }
-        used[m] = 1;
-        p += 1;
-    }
-    Found::Nowhere
-}
-
-// The row at place p.
-fn row_at(order: &[u32], n: usize, p: usize) -> usize
-    requires { InRange n order.now × (p < n) }
-    ensures { (result ≡ at order.now p) × (result < n) }
-{
-    order::index(order[p])
-}
-
-// The key of the band at place p.
-fn key_at(key: &[u32], order: &[u32], n: usize, p: usize) -> u32
-    requires { InRange n order.now × Keyed n key.now × (p < n) }
-    ensures { (result ≡ at key.now (at order.now p)) × (result < 65 + n) }
-{
-    key[row_at(order, n, p)]
-}
-
-// The place before p; 0 for the first.
-fn place_before(p: usize) -> usize
-    ensures { result ≡ p - 1 }
-{
-    if p == 0 { 0 } else { p - 1 }
-}
-
-// Does place p resume a band already left? The flags of `used` are up at the keys of the places before it.
-fn resumes_at(key: &[u32], order: &[u32], n: usize, used: &[u32], p: usize) -> bool
-    requires { InRange n order.now × Keyed n key.now × Marked (λ i. at key.now (at order.now i)) used.now (65 + n) p × (p < n) }
-    ensures { result ≡ resumes (at key.now) order.now p }
-{
-    let k = key_at(key, order, n, p);
-    if used[order::index(k)] != 1 {
-        return false;
-    }
-    key_at(key, order, n, place_before(p)) != k
-}
-
-// The first position that resumes a FIFO already left.
-fn first_split(key: &[u32], order: &[u32], n: usize) -> Found
-    requires { InRange n order.now × Keyed n key.now }
-    ensures { place_of result ≡ lowest n (resumes (at key.now) order.now) }
-{
-    let mut used = [0u32; licence::KEYS];
-    let mut p: usize = 0;
-    while p < n {
-        if resumes_at(key, order, n, &used, p) {
-            return Found::At(p as u32);
-        }
-        used[order::index(key_at(key, order, n, p))] = 1;
-        p += 1;
-    }
-    Found::Nowhere
-}
-
-// What stands for a row in the lent list.
-fn shown(v: order::Verdict) -> u32
-    ensures { result ≡ shown_as v }
-{
-    match v {
-        order::Verdict::Figure(r) => r,
-        order::Verdict::Late => 0,
-    }
-}
-
-// Where the run of one key that ends before place e starts.
-fn run_start(key: &[u32], e: usize) -> usize
-    requires { (0 < e) × (e ≤ length key.now) }
-    ensures { RunStarts key.now e result }
-{
-    let mut s = e - 1;
-    while 0 < s {
-        if key[s - 1] != key[s] {
+    for s in (1..along.len()).rev() {
+        if along[s - 1].key != along[s].key {
             return s;
         }
-        s -= 1;
     }
-    s
+    0
 }
 
-// Writes what stands for the rows of the places s .. e - 1.
-fn put_for(order: &[u32], n: usize, s: usize, e: usize, figure: u32, figures: &mut [u32])
-    requires { InRange n order.now × (s ≤ e) × (e ≤ n) × (n ≤ length figures.old) }
-    ensures { PutFor order.now s e figure figures.old figures.new }
-{
-    let mut p = s;
-    while p < e {
-        figures[row_at(order, n, p)] = figure;
-        p += 1;
-    }
+// An order of rows: each of its entries is one, and none stands twice.
+#[derive(Drop)]
+struct Entries<'a> {
+    order: &'a [u32],
+    ghost in_range: { InRange (length order.now) order.now },
+    ghost distinct: { NoneBad order.now },
 }
 
-// Writes what stands for each row, from the lowest run up: the places before a run are above it.
-fn fill_runs(
-    n: usize,
-    c: &[u32],
-    t: &[u32],
-    j: &[u32],
-    a: &[u32],
-    key: &[u32],
-    order: &[u32],
-    figures: &mut [u32],
-)
-    requires { Laid n c.now t.now j.now a.now key.now order.now × (n ≤ length figures.old) }
-    ensures { FilledFrom n c.now t.now j.now a.now key.now order.now figures.old figures.new 0 }
-{
-    let mut below: u32 = 0;
-    let mut e = n;
-    while 0 < e {
-        let s = run_start(key, e);
-        let figure = shown(order::judge_run(e, c, t, j, a, s, e, below));
-        put_for(order, n, s, e, figure, figures);
-        below = order::longest_of(c, s, e, below);
-        e = s;
-    }
-}
-
-// Writes what stands for each row, with the columns arranged along the order.
-fn fill(
-    n: usize,
-    c: &[u32],
-    t: &[u32],
-    j: &[u32],
-    e: &[u32],
-    key: &[u32],
-    order: &[u32],
-    figures: &mut [u32],
-)
-    requires { Held n c.now t.now j.now e.now key.now × Sound n (sheet n c.now t.now j.now e.now key.now) order.now × (n ≤ length figures.old) }
-    ensures { Written (sheet n c.now t.now j.now e.now key.now) order.now figures.old figures.new }
-{
-    let mut ca = [0u32; licence::LIMIT];
-    let mut ta = [0u32; licence::LIMIT];
-    let mut ja = [0u32; licence::LIMIT];
-    let mut ea = [0u32; licence::LIMIT];
-    let mut ka = [0u32; licence::LIMIT];
-    order::align(
-        n, c, t, j, e, key, order, &mut ca, &mut ta, &mut ja, &mut ea, &mut ka,
-    );
-    fill_runs(n, &ca, &ta, &ja, &ea, &ka, order, figures);
-}
-
-// The first position whose row has the figure 0.
-fn first_zero(order: &[u32], figures: &[u32], n: usize) -> Found
-    requires { InRange n order.now × (n ≤ length figures.now) }
-    ensures { place_of result ≡ lowest n (zero_at figures.now order.now) }
-{
-    let mut p: usize = 0;
-    while p < n {
-        if figures[row_at(order, n, p)] == 0 {
-            return Found::At(p as u32);
+impl<'a> Entries<'a> {
+    // The entries of an order, or its first that is out of range or a repeat.
+    fn read(order: &'a [u32]) -> Result<Entries<'a>, Refusal>
+        requires { length order.now ≤ limit }
+        ensures same { IfOk result (λ entries. entries.order.now ≡ order.now) }
+        ensures first { IfErr result (λ refused. FirstBad order.now refused) }
+    {
+        let mut used = [false; licence::LIMIT];
+        for (p, &entry) in order.iter().enumerate() {
+            let row = entry as usize;
+            if order.len() <= row || used[row] {
+                return Err(Refusal::OrderEntry(p as u32));
+            }
+            used[row] = true;
         }
-        p += 1;
+        Ok(Entries { order })
     }
-    Found::Nowhere
+
+    // The first position that resumes a FIFO already left: its key was used, and not by the place just before.
+    fn first_split(&self, rows: &[Terms]) -> Option<u32>
+        requires { Keyed (length self.now.order.now) (keys rows.now) }
+        ensures { place_of result ≡ lowest (length self.now.order.now) (resumes (at (keys rows.now)) self.now.order.now) }
+    {
+        let mut used = [false; licence::KEYS];
+        // The key of the place before. At the first place no flag is up, so any will do.
+        let mut last: u32 = 0;
+        for (p, &row) in self.order.iter().enumerate() {
+            let k = rows[row as usize].key;
+            if used[k as usize] && k != last {
+                return Some(p as u32);
+            }
+            used[k as usize] = true;
+            last = k;
+        }
+        None
+    }
+
+    // Writes what stands for the rows of a run. That the figures have room is asked by each function that touches them: it joins two lists, and
+    // neither's type can carry it.
+    fn put_for(&self, band: Run, figure: u32, figures: &mut [u32])
+        requires { (band.e ≤ length self.now.order.now) × (length self.now.order.now ≤ length figures.old) }
+        ensures { PutFor self.now.order.now band.s band.e figure figures.old figures.new }
+    {
+        for &row in &self.order[band.s..band.e] {
+            figures[row as usize] = figure;
+        }
+    }
+
+    // Writes what stands for each row, from the lowest run up: the places before a run are above it. A late run's rows get 0, as C has it. The rows
+    // along the order are a list of their own, since a verdict takes a slice of rows alone.
+    fn fill_runs(&self, along: &[Terms], figures: &mut [u32])
+        requires { LaidRows along.now × (length along.now ≡ length self.now.order.now) × (length along.now ≤ length figures.old) }
+        ensures { FilledRows along.now self.now.order.now figures.old figures.new 0 }
+    {
+        let mut below: u32 = 0;
+        let mut e = along.len();
+        // A `while`, since a step is a whole run, whose start is found on the way.
+        while 0 < e {
+            let band = Run {
+                s: run_start(&along[..e]),
+                e,
+            };
+            let figure = order::judge_run(&along[..e], band, below).unwrap_or(0);
+            self.put_for(band, figure, figures);
+            below = order::longest_of(along, band, below);
+            e = band.s;
+        }
+    }
+
+    // Writes what stands for each row, with the rows arranged along the order. `HeldRows` is asked here, below and in the finder: a type that
+    // carried it would have one field, and be opened in each.
+    fn fill(&self, rows: &[Terms], figures: &mut [u32])
+        requires { HeldRows rows.now × (length self.now.order.now ≡ length rows.now) × Together (sheet_of rows.now) self.now.order.now × (length rows.now ≤ length figures.old) }
+        ensures { Written (sheet_of rows.now) self.now.order.now figures.old figures.new }
+    {
+        let mut places = [sums::BLANK; licence::LIMIT];
+        let along = &mut places[..self.order.len()];
+        order::align(rows, self.order, along);
+        self.fill_runs(along, figures);
+    }
+
+    // The first position whose row has the figure 0.
+    fn first_zero(&self, figures: &[u32]) -> Option<u32>
+        requires { length self.now.order.now ≤ length figures.now }
+        ensures { place_of result ≡ lowest (length self.now.order.now) (zero_at figures.now self.now.order.now) }
+    {
+        for (p, &row) in self.order.iter().enumerate() {
+            if figures[row as usize] == 0 {
+                return Some(p as u32);
+            }
+        }
+        None
+    }
 }
 
-// Judges the order over a table in columns: refusals 5 to 7, and the verdict.
-fn judge_order(
-    n: usize,
-    c: &[u32],
-    t: &[u32],
-    j: &[u32],
-    e: &[u32],
-    key: &[u32],
-    order: &[u32],
-    figures: &mut [u32],
-) -> Judgement
-    requires { Held n c.now t.now j.now e.now key.now × (n ≤ length figures.old) }
-    ensures { OrderJudged (sheet n c.now t.now j.now e.now key.now) order.now figures.old figures.new (judgement_answer result) }
+// Judges the order of these rows: refusals 5 to 7, and else the first late position.
+fn judge_order(rows: &[Terms], order: &[u32], figures: &mut [u32]) -> Result<Option<u32>, Refusal>
+    requires { HeldRows rows.now × (length rows.now ≤ length figures.old) }
+    ensures { OrderJudged (sheet_of rows.now) order.now figures.old figures.new (judgement_answer result) }
 {
-    if order.len() != n {
-        return Judgement::Refused(intake::Refusal::OrderLength);
+    if order.len() != rows.len() {
+        return Err(Refusal::OrderLength);
     }
-    let entry = first_bad_entry(order, n);
-    if let Found::At(p) = entry {
-        return Judgement::Refused(intake::Refusal::OrderEntry(p));
+    let entries = Entries::read(order)?;
+    if let Some(p) = entries.first_split(rows) {
+        return Err(Refusal::SplitQueue(p));
     }
-    let split = first_split(key, order, n);
-    if let Found::At(p) = split {
-        return Judgement::Refused(intake::Refusal::SplitQueue(p));
-    }
-    fill(n, c, t, j, e, key, order, figures);
-    let late = first_zero(order, figures, n);
-    match late {
-        Found::At(p) => Judgement::Late(p),
-        Found::Nowhere => Judgement::Passed,
-    }
+    entries.fill(rows, figures);
+    Ok(entries.first_zero(figures))
 }
 
-// Judges the order of any table: the reply, and the figure of row i at place i of the lent list.
-pub fn judge(table: &[u32], order: &[u32], figures: &mut [u32]) -> Judgement
+// Judges the order of any table: the first late position, if there is one, and the figure of row i at place i of the lent list.
+pub fn judge(table: &[u32], order: &[u32], figures: &mut [u32]) -> Result<Option<u32>, Refusal>
     ensures { Judged table.now order.now figures.old figures.new (judgement_answer result) }
 {
-    let mut c = [0u32; licence::LIMIT];
-    let mut t = [0u32; licence::LIMIT];
-    let mut j = [0u32; licence::LIMIT];
-    let mut e = [0u32; licence::LIMIT];
-    let mut key = [0u32; licence::LIMIT];
-    let taken = intake::take_in(
-        table,
-        figures.len(),
-        &mut c,
-        &mut t,
-        &mut j,
-        &mut e,
-        &mut key,
-    );
-    match taken {
-        intake::Intake::Refused(refusal) => Judgement::Refused(refusal),
-        intake::Intake::Rows(n) => judge_order(n, &c, &t, &j, &e, &key, order, figures),
-    }
+    let mut places = [sums::BLANK; licence::LIMIT];
+    let n = intake::take_in(table, figures.len(), &mut places)?;
+    judge_order(&places[..n], order, figures)
 }

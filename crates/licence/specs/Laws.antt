@@ -1,15 +1,15 @@
 -- What follows from the definitions of Row: the bounds of a row that can be read, what a reading tells, when two rows are one word for word, and
 -- when they have one key.
 -- Assumes nothing.
-use Rattle.std.specs.Prelude.{ℕ, zero, suc, ◌+◌, ◌≤◌, ◌<◌, Bool, true, false, cond, not, ◌&&◌, List, ◌⊎◌, ◌≡◌, refl, leb, eqb}
-use Rattle.std.proofs.Common.{arith, inl, inr, lit<, leb-true, ne_eqb}
+use Rattle.std.specs.Prelude.{ℕ, zero, suc, ◌+◌, ◌≤◌, ◌<◌, Bool, true, false, cond, not, ◌&&◌, List, ◌⊎◌, ◌≡◌, refl, leb, eqb, Ok, Err}
+use Rattle.std.proofs.Common.{arith, inl, inr, ap, ◌∙◌, lit<, lit≤, leb-true, ne_eqb}
 use Rattle.std.proofs.Math.Bool.{and-eq-true_iff}
 use Rattle.std.proofs.Math.Dec.{eqb-suc-zero}
 use Rattle.licence.specs.declared.Length.{Length}
 use Rattle.licence.specs.declared.Length.TheVariants.{Bits, Std, Ext}
-use Rattle.licence.specs.declared.Reading.TheVariants.{Good, Bad}
+use Rattle.licence.specs.declared.Field.{Field}
 use Rattle.licence.specs.declared.Row.{Row}
-use Rattle.licence.specs.Row.{word, size_allowed, first_bad, bad_field, length_of, queue_of, row_at, reading_of, read_at, bit_times, band_key}
+use Rattle.licence.specs.Row.{word, size_allowed, first_bad, bad_field, length_of, queue_of, row_at, number_of, field_at, reading_of, read_at, bit_times, band_key}
 
 -- ---- a row with no bad field
 pub record Allowed (words : List ℕ) (i : ℕ) : Type 0 where
@@ -55,26 +55,48 @@ row_allowed words i e =
     let j = passed (leb (word words i 5) (word words i 4)) 6 _ (lit< tt) d.1 in
     omega (arith, leb-true, sized _ _ s.0)
 
+-- ---- a field and its number
+pub number_at : (b : ℕ) → 1 ≤ b → b ≤ 6 → number_of (field_at b) ≡ b
+number_at zero h l = absurd (omega arith)
+number_at (suc zero) h l = refl
+number_at (suc (suc zero)) h l = refl
+number_at (suc (suc (suc zero))) h l = refl
+number_at (suc (suc (suc (suc zero)))) h l = refl
+number_at (suc (suc (suc (suc (suc zero))))) h l = refl
+number_at (suc (suc (suc (suc (suc (suc zero)))))) h l = refl
+number_at (suc (suc (suc (suc (suc (suc (suc n))))))) h l = absurd (omega arith)
+
+at_most : (b : Bool) (k r : ℕ) → k ≤ 6 → r ≤ 6 → cond (not b) k r ≤ 6
+at_most true k r l m = m
+at_most false k r l m = l
+
+pub bad_most : (words : List ℕ) (i : ℕ) → bad_field words i ≤ 6
+unfolding bad_field first_bad
+bad_most words i = search (at_most, lit≤) depth 14
+
 -- ---- a reading
-good_told : (bad : ℕ) (row r : Row) → reading_of bad row ≡ Good r → (bad ≡ 0) × (r ≡ row)
+good_told : (bad : ℕ) (row r : Row) → reading_of bad row ≡ Ok r → (bad ≡ 0) × (r ≡ row)
 good_told zero row r e = (refl, cc)
 good_told (suc b) row r e =
     let h = simp eqb-suc-zero at e in
     absurd (let z : ◌≡◌ {A = ℕ} 0 1 = cc in omega arith)
 
-bad_told : (bad f : ℕ) (row : Row) → reading_of bad row ≡ Bad f → (bad ≡ 0 → ⊥) × (f ≡ bad)
+bad_told : (bad : ℕ) (f : Field) (row : Row) → reading_of bad row ≡ Err f → (bad ≡ 0 → ⊥) × (f ≡ field_at bad)
 bad_told zero f row e = absurd (let z : ◌≡◌ {A = ℕ} 0 1 = cc in omega arith)
-bad_told (suc b) f row e = let h = simp eqb-suc-zero at e in (omega arith, cc)
+bad_told (suc b) f row e = (omega arith, let h = simp eqb-suc-zero at e in cc)
 
 -- a row that was read has no bad field, and is the row of the words
-pub read_good : (words : List ℕ) (i : ℕ) {row : Row} → read_at words i ≡ Good row → (bad_field words i ≡ 0) × (row ≡ row_at words i)
+pub read_good : (words : List ℕ) (i : ℕ) {row : Row} → read_at words i ≡ Ok row → (bad_field words i ≡ 0) × (row ≡ row_at words i)
 unfolding read_at
 read_good words i e = good_told _ _ _ e
 
 -- a row that was not read has a bad field, and that is the field told
-pub read_bad : (words : List ℕ) (i : ℕ) {f : ℕ} → read_at words i ≡ Bad f → (bad_field words i ≡ 0 → ⊥) × (f ≡ bad_field words i)
+pub read_bad : (words : List ℕ) (i : ℕ) {f : Field} → read_at words i ≡ Err f → (bad_field words i ≡ 0 → ⊥) × (number_of f ≡ bad_field words i)
 unfolding read_at
-read_bad words i e = bad_told _ _ _ e
+read_bad words i e =
+    let t = bad_told _ _ _ e in
+    let some : 1 ≤ bad_field words i = omega (arith, t.0) in
+    (t.0, ap number_of t.1 ∙ number_at (bad_field words i) some (bad_most words i))
 
 -- ---- one row in two places: row i of some words is row j of others, word for word
 abbrev pub SameRow : (words : List ℕ) (i : ℕ) (others : List ℕ) (j : ℕ) → Type 0

@@ -1,13 +1,13 @@
 -- One row of the licence table, after document 01: which words are allowed, the record that a row is read into, its length C,
 -- its time allowed E and its band's key. Definitions only: what follows from them is in Laws and Stuffing.
 -- Assumes nothing.
-use Rattle.std.specs.Prelude.{ℕ, ◌+◌, ◌-◌, ◌*◌, ◌/◌, Bool, cond, not, ◌&&◌, List, leb, eqb, get_or}
+use Rattle.std.specs.Prelude.{ℕ, ◌+◌, ◌-◌, ◌*◌, ◌/◌, Bool, cond, not, ◌&&◌, List, leb, eqb, get_or, Result, Ok, Err}
 use Rattle.licence.specs.declared.Length.{Length}
 use Rattle.licence.specs.declared.Length.TheVariants.{Bits, Std, Ext}
 use Rattle.licence.specs.declared.Queue.{Queue}
 use Rattle.licence.specs.declared.Queue.TheVariants.{Priority, Fifo}
-use Rattle.licence.specs.declared.Reading.{Reading}
-use Rattle.licence.specs.declared.Reading.TheVariants.{Good, Bad}
+use Rattle.licence.specs.declared.Field.{Field}
+use Rattle.licence.specs.declared.Field.TheVariants.{Queue as QueueField, Form, Size, Period, Deadline, Jitter}
 use Rattle.licence.specs.declared.Row.{Row}
 
 -- 'six to a row, rows numbered from 0': word k of row i, k from 0 too
@@ -50,18 +50,31 @@ abbrev pub row_at : List ℕ → ℕ → Row
 row_at words i =
     row_of (word words i 0) (word words i 1) (word words i 2) (word words i 3) (word words i 4) (word words i 5)
 
+-- a field's number in a refusal, 1 to 6
+abbrev pub number_of : Field → ℕ
+number_of QueueField = 1
+number_of Form = 2
+number_of Size = 3
+number_of Period = 4
+number_of Deadline = 5
+number_of Jitter = 6
+
+-- and the field of each number
+abbrev pub field_at : ℕ → Field
+field_at b = cond (eqb b 1) QueueField (cond (eqb b 2) Form (cond (eqb b 3) Size (cond (eqb b 4) Period (cond (eqb b 5) Deadline Jitter))))
+
 -- the row where no field is bad, else the field
-abbrev pub reading_of : ℕ → Row → Reading
-reading_of bad row = cond (eqb bad 0) (Good row) (Bad bad)
+abbrev pub reading_of : ℕ → Row → Result Row Field
+reading_of bad row = cond (eqb bad 0) (Ok row) (Err (field_at bad))
 
 -- what reading row i of the words gives
-unfoldable pub read_at : List ℕ → ℕ → Reading
+unfoldable pub read_at : List ℕ → ℕ → Result Row Field
 read_at words i = reading_of (bad_field words i) (row_at words i)
 
--- the field that a reading tells, or 0
-abbrev pub field_of : Reading → ℕ
-field_of (Good row) = 0
-field_of (Bad f) = f
+-- the number of the field that a reading tells, or 0
+abbrev pub field_of : Result Row Field → ℕ
+field_of (Ok row) = 0
+field_of (Err f) = number_of f
 
 -- a frame with s bytes: 'C = g + 8s + 13 + (g + 8s - 1) / 4, rounded down' (request L2)
 abbrev pub frame : (g s : ℕ) → ℕ

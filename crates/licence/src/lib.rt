@@ -1,8 +1,8 @@
 // One row of the licence table: six words are read once into a record, and the numbers of the row are taken from that.
 #![tactic(auto)]
 
-ghost use Rattle.std.specs.Prelude.{◌&&◌, ◌≡◌, ◌+◌, ◌*◌, ◌≤◌, ◌<◌, leb, length};
-ghost use Rattle.licence.specs.Row.{word, size_allowed, first_bad, length_of, queue_of, row_of, reading_of, read_at, field_of, frame, bit_times, band_key};
+ghost use Rattle.std.specs.Prelude.{◌≡◌, ◌+◌, ◌*◌, ◌≤◌, ◌<◌, length};
+ghost use Rattle.licence.specs.Row.{size_allowed, length_of, queue_of, number_of, read_at, field_of, frame, bit_times, band_key};
 
 // A table has at most this many rows. The definition is `limit` of specs/Limit.antt: where the two differ, `intake::take_in` is not proved.
 pub const LIMIT: usize = 64;
@@ -18,6 +18,7 @@ pub enum Length {
     Ext(u32),
 }
 
+// An enum of its own, though of Option's shape: document 01 names the form.
 #[derive(Clone, Copy)]
 pub enum Queue {
     Priority,
@@ -33,123 +34,102 @@ pub struct Row {
     pub jitter: u32,
 }
 
-// A row that can be read, or the lowest bad field of one that can't.
-#[derive(Clone, Copy)]
-pub enum Reading {
-    Good(Row),
-    Bad(u32),
+// A row's six fields, one to a word. A row that can't be read is refused with its lowest bad one.
+#[derive(Clone, Copy, PartialEq, Eq)]
+pub enum Field {
+    Queue = 1,
+    Form,
+    Size,
+    Period,
+    Deadline,
+    Jitter,
 }
 
-// Whether x is one of lo to hi.
-fn in_range(lo: u32, hi: u32, x: u32) -> bool
-    ensures { result ≡ (leb lo x && leb x hi) }
-{
-    lo <= x && x <= hi
+// A field's number in a refusal, 1 to 6.
+impl From<Field> for u32 {
+    ghost from_gives = { λ field number. number ≡ number_of field };
+
+    fn from(field: Field) -> u32 {
+        field as u32
+    }
 }
 
-// Whether form f allows size s.
+// Whether form f allows size s. Forms are numbers in the words that C lends, and a `Length` keeps them from here on.
 fn size_allowed(f: u32, s: u32) -> bool
     ensures { result ≡ size_allowed f s }
 {
-    if f == 0 { in_range(1, 4096, s) } else { s <= 8 }
+    if f == 0 {
+        (1..=4096).contains(&s)
+    } else {
+        s <= 8
+    }
 }
 
-// The lowest bad field of six words, or 0.
-fn first_bad(q: u32, f: u32, s: u32, t: u32, d: u32, j: u32) -> u32
-    ensures { result ≡ first_bad q f s t d j }
-{
-    if 64 < q {
-        return 1;
-    }
-    if 2 < f {
-        return 2;
-    }
-    if !size_allowed(f, s) {
-        return 3;
-    }
-    if !in_range(1, 1000000, t) {
-        return 4;
-    }
-    if !in_range(1, t, d) {
-        return 5;
-    }
-    if d < j {
-        return 6;
-    }
-    0
-}
-
-// The length of form f and size s.
+// The length of form f and size s. Not a `From`: a pair would not say which word is the form.
 fn length_of(f: u32, s: u32) -> Length
     ensures { result ≡ length_of f s }
 {
-    if f == 0 {
-        Length::Bits(s)
-    } else if f == 1 {
-        Length::Std(s)
-    } else {
-        Length::Ext(s)
+    match f {
+        0 => Length::Bits(s),
+        1 => Length::Std(s),
+        _ => Length::Ext(s),
     }
 }
 
-// The queue of number q.
-fn queue_of(q: u32) -> Queue
-    ensures { result ≡ queue_of q }
-{
-    if q == 0 {
-        Queue::Priority
-    } else {
-        Queue::Fifo(q)
-    }
-}
+// The queue of a number.
+impl From<u32> for Queue {
+    ghost from_gives = { λ q queue. queue ≡ queue_of q };
 
-// Six words as a row, or their lowest bad field.
-fn read_words(q: u32, f: u32, s: u32, t: u32, d: u32, j: u32) -> Reading
-    ensures { result ≡ reading_of (first_bad q f s t d j) (row_of q f s t d j) }
-{
-    let bad = first_bad(q, f, s, t, d, j);
-    if bad != 0 {
-        return Reading::Bad(bad);
+    fn from(q: u32) -> Queue {
+        match q {
+            0 => Queue::Priority,
+            _ => Queue::Fifo(q),
+        }
     }
-    Reading::Good(Row {
-        queue: queue_of(q),
-        length: length_of(f, s),
-        period: t,
-        deadline: d,
-        jitter: j,
-    })
-}
-
-// Word k of row i, both from 0.
-fn word(table: &[u32], i: usize, k: usize) -> u32
-    requires { i * 6 + k < length table.now }
-    ensures { result ≡ word table.now i k }
-{
-    table[i * 6 + k]
 }
 
 // Row i of the table, or its lowest bad field.
-pub fn read_row(table: &[u32], i: usize) -> Reading
+pub fn read_row(table: &[u32], i: usize) -> Result<Row, Field>
     requires { i * 6 + 6 ≤ length table.now }
     ensures { result ≡ read_at table.now i }
 {
-    read_words(
-        word(table, i, 0),
-        word(table, i, 1),
-        word(table, i, 2),
-        word(table, i, 3),
-        word(table, i, 4),
-        word(table, i, 5),
-    )
+    let &[queue, form, size, period, deadline, jitter] = &table[i * 6..i * 6 + 6] else {
+        unreachable!();
+    };
+    if 64 < queue {
+        return Err(Field::Queue);
+    }
+    if 2 < form {
+        return Err(Field::Form);
+    }
+    if !size_allowed(form, size) {
+        return Err(Field::Size);
+    }
+    if !(1..=1000000).contains(&period) {
+        return Err(Field::Period);
+    }
+    if !(1..=period).contains(&deadline) {
+        return Err(Field::Deadline);
+    }
+    if deadline < jitter {
+        return Err(Field::Jitter);
+    }
+    Ok(Row {
+        queue: Queue::from(queue),
+        length: length_of(form, size),
+        period,
+        deadline,
+        jitter,
+    })
 }
 
-// The field that a reading tells, or 0 for a row that can be read.
-pub fn field_of(r: Reading) -> u32
-    ensures { result ≡ field_of r }
+// The number of the field that a reading tells, or 0 where the row can be read, as `field_of` of specs/Row says.
+pub fn field_of(reading: Result<Row, Field>) -> u32
+    ensures { result ≡ field_of reading }
 {
-    match r {
-        Reading::Good(_) => 0,
-        Reading::Bad(f) => f,
+    match reading {
+        Ok(_) => 0,
+        Err(field) => u32::from(field),
     }
 }
 

@@ -1,2 +1,3 @@
 -- Laws that the proofs of this crate cite. Assumes nothing.
 mod Left
+mod Stores

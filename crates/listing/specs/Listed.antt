@@ -1,6 +1,6 @@
 -- Which text is made for which bytes: the book is read, an order is found, that is judged, and its lines are shown; or the refusal. Definitions only.
 -- Assumes nothing.
-use Rattle.std.specs.Prelude.{ℕ, ◌≤◌, ◌≡◌, List, length, take, drop, replicate}
+use Rattle.std.specs.Prelude.{ℕ, ◌≤◌, ◌≡◌, List, length, take, drop, replicate, Result, Ok, Err}
 use Rattle.licence.specs.Limit.{limit}
 use Rattle.intake.specs.Words.{rows}
 use Rattle.intake.specs.Answer.{Answer, answer, refusal_answer, refused, fine}
@@ -38,3 +38,8 @@ pub record Stands (Text : List ℕ → Type 0) (before after : List ℕ) (r : �
 -- r counts places at the start of a list; the second part follows from the first, and is there for callers
 abbrev pub Counts : ℕ → List ℕ → Type 0
 Counts r list = (r ≤ length list) × (r ≡ length (take r list))
+
+-- the lines for a book stand in a list; or its text is the line of a refusal, and the list is as it was
+abbrev pub PutOrder : (book before after : List ℕ) → Result ℕ Refusal → Type 0
+PutOrder book before after (Ok end) = Stands (Listed book) before after end
+PutOrder book before after (Err r) = (after ≡ before) × Listed book (refused_line (refusal_answer r).number)

@@ -4,6 +4,8 @@ use Rattle.std.specs.Prelude.{ℕ, zero, suc, ◌+◌, ◌/◌, ◌%◌, ◌^◌
 use Rattle.std.proofs.Common.{pow-suc, div-lt_iff_lt-mul, arith, sym, ap, ap₂, ◌∙◌, length-append, lit<, lt-ltb, le-ltb}
 use Rattle.std.proofs.Math.Decide.{dec_lt}
 use Rattle.std.proofs.lemmas.List.Edits.{sets}
+use Rattle.std.specs.Fmt.{decimal as std_decimal}
+use Rattle.std.proofs.lemmas.Fmt.{decimal_by_steps}
 use Rattle.book.specs.ListLaws.{sets_append}
 use Rattle.listing.specs.Text.{spelled, decimal, line, refused_word, refused_line, line_most}
 
@@ -43,6 +45,10 @@ decimal_length (suc k) n l = go (dec_lt n 10) (decimal_length k (n / 10) ((div-l
 -- a word has at most ten digits
 pub word_length : (n : ℕ) → n < 4294967296 → length (decimal n) ≤ 10
 word_length n l = decimal_length 9 n (omega arith)
+
+-- what std prints for a word is that word in decimal
+pub printed : (n : ℕ) → n < 2 ^ 64 → std_decimal n ≡ decimal n
+printed = decimal_by_steps (λ m ds. ds ≡ decimal m) (λ m l. sym (decimal_short m l)) (λ m ds l e. ap (λ (r : List ℕ). r ++ ((48 + m % 10) ∷ [])) e ∙ sym (decimal_long m l))
 
 -- ---- lines
 

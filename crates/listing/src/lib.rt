@@ -5,29 +5,29 @@ ghost use Rattle.std.specs.Prelude.{◌≡◌, ℕ, ◌+◌, ◌*◌, ◌≤◌,
 ghost use Rattle.std.proofs.lemmas.List.Edits.{sets};
 ghost use Rattle.sums.specs.Columns.{at as Columns·at};
 ghost use Rattle.licence.specs.Limit.{limit};
-ghost use Rattle.intake.specs.Words.{rows};
 ghost use Rattle.intake.specs.Answer.{refusal_answer};
 ghost use Rattle.listing.specs.Text.{decimal, line, lines, refused_line, line_most};
-ghost use Rattle.listing.specs.Listed.{WordsListed, Listed, Stands, Counts};
+ghost use Rattle.listing.specs.Listed.{Listed, Stands, Counts, PutOrder};
+
+use intake::{Refusal, Reply};
 
 // No text is longer than this: a line a row, each of at most 22 bytes (`line_most`).
 pub const LONGEST: usize = 22 * licence::LIMIT;
 
-// Writes n in decimal from place `at` on, and answers where it ends.
+// Writes n in decimal from place `at` on, and answers where it ends. The digits come from the kit's buffer, since `write!` into lent bytes says nothing of
+// which bytes are there afterwards.
 fn put_decimal(text: &mut [u8], at: usize, n: u32) -> usize
     requires { at + length (decimal n) ≤ length text.old }
     ensures { (result ≡ at + length (decimal n)) × (text.new ≡ sets text.old at (decimal n)) }
 {
-    if n < 10 {
-        text[at] = 48 + n as u8;
-        return at + 1;
-    }
-    let next = put_decimal(text, at, n / 10);
-    text[next] = 48 + (n % 10) as u8;
-    next + 1
+    let mut buffer = itoa::Buffer::new();
+    let digits = buffer.format(n).as_bytes();
+    let end = at + digits.len();
+    text[at..end].copy_from_slice(digits);
+    end
 }
 
-// Writes a line from place `at` on, row, space and figure, and answers where it ends.
+// Writes a line from place `at` on, row, space and figure, and answers where it ends: the place goes beside the bytes, as in `put_decimal`.
 fn put_line(text: &mut [u8], at: usize, row: u32, figure: u32) -> usize
     requires { at + line_most ≤ length text.old }
     ensures { (result ≡ at + length (line row figure)) × (text.new ≡ sets text.old at (line row figure)) }
@@ -45,60 +45,48 @@ fn put_lines(order: &[u32], figures: &[u32], text: &mut [u8]) -> usize
     ensures { (result ≤ line_most * length order.now) × (result ≡ length (lines order.now figures.now)) × (text.new ≡ sets text.old 0 (lines order.now figures.now)) }
 {
     let mut end: usize = 0;
-    let mut p: usize = 0;
-    while p < order.len() {
-        let row = order[p];
-        end = put_line(text, end, row, figures[order::index(row)]);
-        p += 1;
+    for &row in order {
+        end = put_line(text, end, row, figures[row as usize]);
     }
     end
 }
 
 // Writes the line of a refusal, and answers where it ends.
-fn put_refusal(text: &mut [u8], r: intake::Refusal) -> usize
+fn put_refusal(text: &mut [u8], r: Refusal) -> usize
     requires { line_most ≤ length text.old }
     ensures { (result ≡ length (refused_line (refusal_answer r).number)) × (text.new ≡ sets text.old 0 (refused_line (refusal_answer r).number)) }
 {
-    text[0] = b'r';
-    text[1] = b'e';
-    text[2] = b'f';
-    text[3] = b'u';
-    text[4] = b's';
-    text[5] = b'e';
-    text[6] = b'd';
-    text[7] = b' ';
-    let stop = put_decimal(text, 8, intake::refusal_reply(r).number);
+    text[..8].copy_from_slice(b"refused ");
+    let stop = put_decimal(text, 8, Reply::from(r).number);
     text[stop] = b'\n';
     stop + 1
 }
 
-// Writes the text for the words of n rows, and answers where it ends.
-fn list_words(words: &[u32], n: usize, text: &mut [u8]) -> usize
-    requires { (n ≡ rows words.now) × (line_most * limit ≤ length text.old) }
-    ensures { Stands (WordsListed words.now) text.old text.new result }
+// Writes the lines of the order that is found for a book, and answers where they end.
+fn put_order(book: &[u8], text: &mut [u8]) -> Result<usize, Refusal>
+    requires { line_most * limit ≤ length text.old }
+    ensures { PutOrder book.now text.old text.new result }
 {
+    // Lists of the limit's length: nothing is allocated.
+    let mut words = [0u32; 6 * licence::LIMIT];
+    let n = book::read(book, &mut words)? as usize;
+    let words = &words[..6 * n];
     let mut order = [0u32; licence::LIMIT];
-    let finding = finder::find(words, &mut order);
-    if let finder::Finding::Refused(r) = finding {
-        return put_refusal(text, r);
-    }
+    finder::find(words, &mut order)?;
+    let order = &order[..n];
     let mut figures = [0u32; licence::LIMIT];
-    judge::judge(words, &order[..n], &mut figures);
-    put_lines(&order[..n], &figures, text)
+    // An order that was found passes: what is answered is known.
+    let _ = judge::judge(words, order, &mut figures);
+    Ok(put_lines(order, &figures, text))
 }
 
-// Writes the text for a book, and answers where it ends.
+// Writes the text for a book, and answers where it ends. Into lent bytes: nothing is allocated.
 pub fn list(book: &[u8], text: &mut [u8; LONGEST]) -> usize
     ensures counts { Counts result text.new }
     ensures stands { Stands (Listed book.now) text.old text.new result }
 {
-    let mut words = [0u32; 6 * licence::LIMIT];
-    let reading = book::read(book, &mut words);
-    match reading {
-        book::Reading::Refused(r) => put_refusal(text, r),
-        book::Reading::Rows(rows) => {
-            let n = order::index(rows);
-            list_words(&words[..6 * n], n, text)
-        }
+    match put_order(book, text) {
+        Ok(end) => end,
+        Err(refusal) => put_refusal(text, refusal),
     }
 }

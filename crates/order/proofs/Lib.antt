@@ -1,4 +1,3 @@
 -- Laws that the proofs of this crate cite. Assumes nothing.
 mod Rows
 mod Ruling
-mod Laying

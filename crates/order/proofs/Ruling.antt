@@ -11,8 +11,7 @@ use Rattle.sums.specs.Least.{Least}
 use Rattle.sums.specs.Columns.{at}
 use Rattle.order.specs.Sheet.{NumbersAre, top, VerdictIs, RunIn, RunVerdict}
 use Rattle.order.specs.declared.Numbers.{Numbers}
-use Rattle.order.specs.declared.Verdict.{Verdict}
-use Rattle.order.specs.declared.Verdict.TheVariants.{Figure, Late}
+use Rattle.std.specs.Prelude.{Option, Some, None}
 
 module _ {n : ℕ} {c t j a : List ℕ} {s e below : ℕ} {x : Numbers} (h : RunIn n c t j a s e below) (is : NumbersAre e (at c) (at a) (run s e) x) where
   -- F with the constant part open
@@ -23,7 +22,7 @@ module _ {n : ℕ} {c t j a : List ℕ} {s e below : ℕ} {x : Numbers} (h : Run
   least : (f : ℕ → ℕ) → ((k : ℕ) → k < n → f k ≤ top) → min_from top e (run s e) f ≡ min_over n (run s e) f
   least f b = sym (run_beyond min top refl s e f (λ a b c. omega arith) n h.inside) ∙ min_over_lem top n (run s e) f s (omega (arith, h.some, h.inside)) (run_here s e s (omega arith) h.some) b
 
-  says : (l : ℕ) → l ≡ max below x.longest → (v : Verdict) → VerdictIs (F (l + (x.sum - x.shortest))) x.shortest x.tightest v → RunVerdict n c t j a s e below v
+  says : (l : ℕ) → l ≡ max below x.longest → (v : Option ℕ) → VerdictIs (F (l + (x.sum - x.shortest))) x.shortest x.tightest v → RunVerdict n c t j a s e below v
   says l longest v ruling =
       let shortest = is.shortest ∙ least (at c) (λ k i. omega (arith, h.lengths.c_most k i)) in
       subst₃ (λ (b m y : ℕ). VerdictIs (F b) m y v)
@@ -33,12 +32,12 @@ module _ {n : ℕ} {c t j a : List ℕ} {s e below : ℕ} {x : Numbers} (h : Run
       ruling
 
   -- the shortest length alone is past the time allowed
-  pub no_time : x.tightest < x.shortest → RunVerdict n c t j a s e below Late
-  no_time late = says (max below x.longest) refl Late (λ p. absurd (omega (arith, p.within)))
+  pub no_time : x.tightest < x.shortest → RunVerdict n c t j a s e below None
+  no_time late = says (max below x.longest) refl None (λ p. absurd (omega (arith, p.within)))
 
   module _ {l : ℕ} (longest : l ≡ max below x.longest) (time : x.shortest ≤ x.tightest) where
-    pub found : {w : ℕ} → Least (F (l + (x.sum - x.shortest))) w → w ≤ x.tightest - x.shortest → RunVerdict n c t j a s e below (Figure (w + x.shortest))
-    found {w} solved within = says l longest (Figure (w + x.shortest)) (record { w = w; least = solved; is = refl; within = omega arith })
+    pub found : {w : ℕ} → Least (F (l + (x.sum - x.shortest))) w → w ≤ x.tightest - x.shortest → RunVerdict n c t j a s e below (Some (w + x.shortest))
+    found {w} solved within = says l longest (Some (w + x.shortest)) (record { w = w; least = solved; is = refl; within = omega arith })
 
-    pub never : ((v : ℕ) → F (l + (x.sum - x.shortest)) v ≡ v → x.tightest - x.shortest < v) → RunVerdict n c t j a s e below Late
-    never past = says l longest Late (λ p. absurd (omega (arith, past p.w p.solves, p.within)))
+    pub never : ((v : ℕ) → F (l + (x.sum - x.shortest)) v ≡ v → x.tightest - x.shortest < v) → RunVerdict n c t j a s e below None
+    never past = says l longest None (λ p. absurd (omega (arith, past p.w p.solves, p.within)))

@@ -3,7 +3,7 @@
 -- Assumes nothing.
 use Prim.Native.Nat.{ℕ, ◌+◌, ◌-◌, ◌<◌, max, min}
 use Rattle.std.proofs.Common.{arith, sym, ap, ◌∙◌}
-use Rattle.std.specs.Prelude.{◌≡◌, not, ◌&&◌, List, length, T as Is}
+use Rattle.std.specs.Prelude.{◌≡◌, not, ◌&&◌, Option, List, length, T as Is}
 use Rattle.std.proofs.Math.Path.{refl, ap₂, subst₃, fun_ext}
 use Rattle.sums.specs.Masks.{Mask, run, outside}
 use Rattle.sums.specs.MaskLaws.{same_test, and_right, and_intro}
@@ -14,7 +14,6 @@ use Rattle.order.specs.Table.{Table, B, MIN, least_e, base, F}
 use Rattle.order.specs.Orders.{mem, NoRepeat}
 use Rattle.order.specs.Along.{along}
 use Rattle.order.specs.Sheet.{RunVerdict, VerdictIs}
-use Rattle.order.specs.declared.Verdict.{Verdict}
 
 module _ (τ : Table) (l : List ℕ) (once : NoRepeat l) (range : (k : ℕ) → Is (mem l k) → k < τ.n) (own : Mask) (s e : ℕ)
     (places : (p : ℕ) → p < length l → run s e p ≡ own (at l p)) (whole : (k : ℕ) → k < τ.n → Is (own k) → Is (mem l k)) where
@@ -47,6 +46,6 @@ module _ (τ : Table) (l : List ℕ) (once : NoRepeat l) (range : (k : ℕ) → 
         ∙ (along ◌+◌ 0 refl (λ x y z. omega arith) τ.n l once range (λ k. not (own k)) (load τ.C τ.T τ.J w)
         ∙ over_same ◌+◌ 0 τ.n (λ k. mem l k && not (own k)) above _ _ (λ k i. sym (others k i)) (λ k i. refl))
 
-    pub run_verdict : (v : Verdict) → RunVerdict (length l) c t j a s e longest v → VerdictIs (F τ own above below) (MIN τ own) (least_e τ own) v
+    pub run_verdict : (v : Option ℕ) → RunVerdict (length l) c t j a s e longest v → VerdictIs (F τ own above below) (MIN τ own) (least_e τ own) v
     unfolding demand
     run_verdict v h = subst₃ (λ (f : ℕ → ℕ) (m x : ℕ). VerdictIs f m x v) (fun_ext (λ w. ap₂ ◌+◌ base_same (above_same w))) (own_min c τ.C hc) (own_min a τ.E ha) h

@@ -1,9 +1,12 @@
 -- What holds of columns holds of their first places, and of the columns along an order.
 -- Assumes nothing.
-use Rattle.std.specs.Prelude.{ℕ, ◌≤◌, ◌<◌, List}
-use Rattle.std.proofs.Common.{arith}
+use Rattle.std.specs.Prelude.{ℕ, ◌≤◌, ◌<◌, List, length}
+use Rattle.std.proofs.Common.{arith, sym, ap, ◌∙◌}
 use Rattle.sums.specs.Columns.{Columns, at}
-use Rattle.order.specs.Sheet.{Lengths, Room, Aligned}
+use Rattle.sums.specs.Terms.{column, nothing, lengths, periods, jitters, allowed, keys}
+use Rattle.sums.specs.TermLaws.{at_column, length_column}
+use Rattle.sums.specs.declared.Terms.{Terms}
+use Rattle.order.specs.Sheet.{Lengths, Room, Along, Aligned, EntriesIn, Placed}
 
 pub lengths_part : {n m : ℕ} {c a : List ℕ} → m ≤ n → Lengths n c a → Lengths m c a
 lengths_part l h =
@@ -39,3 +42,25 @@ module _ {n m : ℕ} {c t j e key order c' t' j' e' key' : List ℕ} (along : Al
         c_most = λ p b. omega (arith, along.along_c p (omega arith), h.c_most (at order p) (range p b));
         e_most = λ p b. omega (arith, along.along_e p (omega arith), h.e_most (at order p) (range p b));
       }
+
+-- ---- rows
+
+-- the columns of rows have room for them
+pub room_of : (rows : List Terms) → Room (length rows) (lengths rows) (periods rows) (jitters rows) (allowed rows) (keys rows)
+room_of rows =
+    record {
+      long_c = omega (arith, length_column (λ x. x.length) rows);
+      long_t = omega (arith, length_column (λ x. x.period) rows);
+      long_j = omega (arith, length_column (λ x. x.jitter) rows);
+      long_e = omega (arith, length_column (λ x. x.allowed) rows);
+      long_key = omega (arith, length_column (λ x. x.key) rows);
+    }
+
+-- the columns of rows that stand along an order stand along it
+pub aligned_rows : (rows : List Terms) (order : List ℕ) (along : List Terms) → EntriesIn rows order → length order ≤ length along → Placed rows order along
+    → Aligned (length order) (lengths rows) (periods rows) (jitters rows) (allowed rows) (keys rows) order (lengths along) (periods along) (jitters along) (allowed along) (keys along)
+aligned_rows rows order along range long h =
+    record { along_c = stands (λ x. x.length); along_t = stands (λ x. x.period); along_j = stands (λ x. x.jitter); along_e = stands (λ x. x.allowed); along_key = stands (λ x. x.key) }
+  where
+    stands : (f : Terms → ℕ) → Along (length order) (column f rows) order (column f along)
+    stands f p l = at_column f along p nothing (omega arith) ∙ (ap f (h p nothing l) ∙ sym (at_column f rows (at order p) nothing (range p l)))

@@ -13,6 +13,7 @@ pub mod Marks
 pub mod Along
 pub mod Arranged
 pub mod Columns
+pub mod Parts
 pub mod Lighter
 pub mod Renumbered
 pub mod Without

@@ -1,13 +1,9 @@
 -- The climb to the least solution, and what follows from it: a post-solution has a least solution below it.
 -- Assumes nothing.
-use Rattle.std.specs.Prelude.{ℕ, zero, suc, ◌+◌, ◌≤◌, ◌<◌, ◌≡◌}
+use Rattle.std.specs.Prelude.{ℕ, zero, suc, ◌+◌, ◌≤◌, ◌<◌, ◌≡◌, Option, Some, None}
 use Rattle.std.proofs.Common.{zero-le, le_trans, le_of_eq, le_antisymm, arith, subst}
 use Rattle.std.proofs.Math.Decide.{ℕ_discrete}
 use Rattle.sums.specs.Least.{Least, Fits, Grows, SettledIs, DemandIs}
-use Rattle.sums.specs.declared.Settled.{Settled}
-use Rattle.sums.specs.declared.Settled.TheVariants.{At, Never}
-use Rattle.sums.specs.declared.Demand.{Demand}
-use Rattle.sums.specs.declared.Demand.TheVariants.{Is, Past}
 
 -- w is on the way: F is not below it there, and no w with F(w) ≤ w is below it
 pub record OnWay (F : ℕ → ℕ) (w : ℕ) : Type 0 where
@@ -75,15 +71,15 @@ fits_mono F G m m' e e' grows le hm he p =
 -- ---- what code asks of an answer
 
 module _ (F : ℕ → ℕ) (cap : ℕ) where
-  pub settled_at : {s : Settled} {w : ℕ} → SettledIs F cap s → s ≡ At w → Least F w × (w ≤ cap)
-  settled_at h e = subst (λ (x : Settled). SettledIs F cap x) e h
+  pub settled_at : {s : Option ℕ} {w : ℕ} → SettledIs F cap s → s ≡ Some w → Least F w × (w ≤ cap)
+  settled_at h e = subst (λ (x : Option ℕ). SettledIs F cap x) e h
 
-  pub settled_never : {s : Settled} → SettledIs F cap s → s ≡ Never → (v : ℕ) → F v ≡ v → cap < v
-  settled_never h e = subst (λ (x : Settled). SettledIs F cap x) e h
+  pub settled_never : {s : Option ℕ} → SettledIs F cap s → s ≡ None → (v : ℕ) → F v ≡ v → cap < v
+  settled_never h e = subst (λ (x : Option ℕ). SettledIs F cap x) e h
 
 module _ (x cap : ℕ) where
-  pub demand_is : {d : Demand} {r : ℕ} → DemandIs x cap d → d ≡ Is r → (r ≡ x) × (r ≤ cap)
-  demand_is h e = subst (λ (y : Demand). DemandIs x cap y) e h
+  pub demand_is : {d : Option ℕ} {r : ℕ} → DemandIs x cap d → d ≡ Some r → (r ≡ x) × (r ≤ cap)
+  demand_is h e = subst (λ (y : Option ℕ). DemandIs x cap y) e h
 
-  pub demand_past : {d : Demand} → DemandIs x cap d → d ≡ Past → cap < x
-  demand_past h e = subst (λ (y : Demand). DemandIs x cap y) e h
+  pub demand_past : {d : Option ℕ} → DemandIs x cap d → d ≡ None → cap < x
+  demand_past h e = subst (λ (y : Option ℕ). DemandIs x cap y) e h

@@ -1,10 +1,6 @@
 -- The least solution of F(w) = w, a solution within a limit, and what a search up to a cap answers. Definitions only.
 -- Assumes nothing.
-use Rattle.std.specs.Prelude.{ℕ, ◌+◌, ◌≤◌, ◌<◌, ◌≡◌}
-use Rattle.sums.specs.declared.Settled.{Settled}
-use Rattle.sums.specs.declared.Settled.TheVariants.{At, Never}
-use Rattle.sums.specs.declared.Demand.{Demand}
-use Rattle.sums.specs.declared.Demand.TheVariants.{Is, Past}
+use Rattle.std.specs.Prelude.{ℕ, ◌+◌, ◌≤◌, ◌<◌, ◌≡◌, Option, Some, None}
 
 -- w is the least whole number with F(w) = w
 pub record Least (F : ℕ → ℕ) (w : ℕ) : Type 0 where
@@ -21,12 +17,12 @@ pub record Fits (F : ℕ → ℕ) (m e : ℕ) : Type 0 where
 abbrev pub Grows : (ℕ → ℕ) → Type 0
 Grows F = (a b : ℕ) → a ≤ b → F a ≤ F b
 
--- the search up to a cap. At w: w is the least solution, and within the cap. Never: no solution is within the cap
-abbrev pub SettledIs : (ℕ → ℕ) → ℕ → Settled → Type 0
-SettledIs F cap (At w) = Least F w × (w ≤ cap)
-SettledIs F cap Never = (v : ℕ) → F v ≡ v → cap < v
+-- the search up to a cap. Some w: w is the least solution, and within the cap. None: no solution is within the cap
+abbrev pub SettledIs : (ℕ → ℕ) → ℕ → Option ℕ → Type 0
+SettledIs F cap (Some w) = Least F w × (w ≤ cap)
+SettledIs F cap None = (v : ℕ) → F v ≡ v → cap < v
 
--- the number x as far as a cap. Is r: it is r, and within the cap. Past: it is past the cap
-abbrev pub DemandIs : ℕ → ℕ → Demand → Type 0
-DemandIs x cap (Is r) = (r ≡ x) × (r ≤ cap)
-DemandIs x cap Past = cap < x
+-- the number x as far as a cap. Some r: it is r, and within the cap. None: it is past the cap
+abbrev pub DemandIs : ℕ → ℕ → Option ℕ → Type 0
+DemandIs x cap (Some r) = (r ≡ x) × (r ≤ cap)
+DemandIs x cap None = cap < x

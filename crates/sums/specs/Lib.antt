@@ -8,5 +8,7 @@ pub mod Move
 pub mod Least
 pub mod Climb
 pub mod Columns
+pub mod Terms
+pub mod TermLaws
 pub mod ColumnLaws
 pub mod Embed

@@ -1,149 +1,126 @@
-// The search for the least solution of the equation for w. Numbers only: rows come as lists of their C, T and J.
+// The search for the least solution of the equation for w, over rows of numbers.
 #![tactic(auto)]
 
-ghost use Rattle.std.specs.Prelude.{◌≡◌, ◌+◌, ◌*◌, ◌≤◌, length};
-ghost use Rattle.sums.specs.Columns.{Columns, at};
+ghost use Rattle.std.specs.Prelude.{◌≡◌, ℕ, ◌+◌, ◌*◌, ◌≤◌, length};
+ghost use Rattle.sums.specs.declared.Terms.{Terms};
+ghost use Rattle.sums.specs.Terms.{Bounded, Rates, column, lengths, periods, jitters};
+ghost use Rattle.sums.specs.Columns.{at};
 ghost use Rattle.sums.specs.Masks.{run, outside};
 ghost use Rattle.sums.specs.Sums.{sum_over, ceil, demand};
 ghost use Rattle.sums.specs.Least.{SettledIs, DemandIs};
 
-// The least solution within a cap, or that there is none within it.
+// The numbers of a row: its C, T and J, which the sums count; the time allowed, which a verdict asks for; and its band's key, which tells runs
+// apart.
 #[derive(Clone, Copy)]
-pub enum Settled {
-    At(u32),
-    Never,
+pub struct Terms {
+    pub length: u32,
+    pub period: u32,
+    pub jitter: u32,
+    pub allowed: u32,
+    pub key: u32,
 }
 
-// A sum within a cap, or that it is past it.
+// What stands in a place that no row has taken yet.
+pub const BLANK: Terms = Terms {
+    length: 0,
+    period: 0,
+    jitter: 0,
+    allowed: 0,
+    key: 0,
+};
+
+// A run of places in a list: from s to e - 1. The list goes beside it, and so does the bound of e: of a struct that held the rows each clause would
+// say `band.entry.rows.now`.
 #[derive(Clone, Copy)]
-pub enum Demand {
-    Is(u32),
-    Past,
+pub struct Run {
+    pub s: usize,
+    pub e: usize,
+    ghost forward: { s ≤ e },
 }
 
-fn wide(x: u32) -> u64
-    ensures { result ≡ x }
-{
-    x as u64
+// What a row adds to a sum.
+trait Adds {
+    ghost adds: { Self → Terms → ℕ };
+
+    fn of(&self, row: &Terms) -> u64
+        requires { Bounded row.now }
+        ensures { (result ≡ adds self.now row.now) × (result ≤ 8192004096) };
 }
 
-// What a row above adds within w. One more than the quotient rounded down is the quotient of one more, rounded up.
-fn load_of(c: u32, t: u32, j: u32, w: u32) -> u64
-    requires { (c ≤ 4096) × (1 ≤ t) × (t ≤ 1000000) × (j ≤ 1000000) × (w ≤ 1000000) }
-    ensures { (result ≡ c * ceil (w + j + 1) t) × (result ≤ 8192004096) }
-{
-    let times = (w + j) / t + 1;
-    wide(c) * wide(times)
+// Its length.
+#[derive(Drop)]
+struct Lengths;
+
+impl Adds for Lengths {
+    ghost adds = { λ x row. row.length };
+
+    fn of(&self, row: &Terms) -> u64 {
+        u64::from(row.length)
+    }
 }
 
-// `start` and what the rows of the places from .. to - 1 add within w, as far as the cap: the sum stops where it passes it.
-fn demand_within(
-    start: u32,
-    from: usize,
-    to: usize,
-    c: &[u32],
-    t: &[u32],
-    j: &[u32],
-    cap: u32,
+// What a row above adds within w.
+#[derive(Drop)]
+struct Within {
     w: u32,
-) -> Demand
-    requires { Columns to c.now t.now j.now × (from ≤ to) × (start ≤ cap) × (cap ≤ 1000000) × (w ≤ cap) }
-    ensures { DemandIs (demand to (at c.now) (at t.now) (at j.now) start (run from to) w) cap result }
+    ghost small: { w ≤ 1000000 },
+}
+
+impl Adds for Within {
+    ghost adds = { λ x row. row.length * ceil (x.w + row.jitter + 1) row.period };
+
+    // One more than the quotient rounded down is the quotient of one more, rounded up.
+    fn of(&self, row: &Terms) -> u64 {
+        let times = (self.w + row.jitter) / row.period + 1;
+        u64::from(row.length) * u64::from(times)
+    }
+}
+
+// `start` and what the rows of a run add, as far as the cap: the sum stops where it passes it. Three clauses ask `Rates`: a type that carried it
+// would have one field, and be opened in each function.
+fn sum_of<A: Adds>(start: u32, rows: &[Terms], part: Run, adds: &A, cap: u32) -> Option<u32>
+    requires { Rates rows.now × (part.e ≤ length rows.now) × (start ≤ cap) }
+    ensures { DemandIs (start + sum_over part.e (run part.s part.e) (at (column (A.adds adds.now) rows.now))) cap result }
 {
     let mut sum = start;
-    let mut k = from;
-    while k < to {
-        let next = wide(sum) + load_of(c[k], t[k], j[k], w);
-        if wide(cap) < next {
-            return Demand::Past;
+    for row in &rows[part.s..part.e] {
+        let next = u64::from(sum) + adds.of(row);
+        if u64::from(cap) < next {
+            return None;
         }
         sum = next as u32;
-        k += 1;
     }
-    Demand::Is(sum)
+    Some(sum)
 }
 
-// F(w) for the rows of the places below n outside s .. e - 1, as far as the cap.
-fn demand_around(
-    base: u32,
-    n: usize,
-    s: usize,
-    e: usize,
-    c: &[u32],
-    t: &[u32],
-    j: &[u32],
-    cap: u32,
-    w: u32,
-) -> Demand
-    requires { Columns n c.now t.now j.now × (s ≤ e) × (e ≤ n) × (base ≤ cap) × (cap ≤ 1000000) × (w ≤ cap) }
-    ensures { DemandIs (demand n (at c.now) (at t.now) (at j.now) base (outside s e) w) cap result }
+// The constant part and what the rows around a band's run add, as far as the cap.
+fn sum_around<A: Adds>(base: u32, rows: &[Terms], band: Run, adds: &A, cap: u32) -> Option<u32>
+    requires { Rates rows.now × (band.e ≤ length rows.now) × (base ≤ cap) }
+    ensures { DemandIs (base + sum_over (length rows.now) (outside band.s band.e) (at (column (A.adds adds.now) rows.now))) cap result }
 {
-    let part = demand_within(base, 0, s, c, t, j, cap, w);
-    let Demand::Is(sum) = part else {
-        return Demand::Past;
+    let before = sum_of(base, rows, Run { s: 0, e: band.s }, adds, cap)?;
+    let behind = Run {
+        s: band.e,
+        e: rows.len(),
     };
-    demand_within(sum, e, n, c, t, j, cap, w)
+    sum_of(before, rows, behind, adds, cap)
 }
 
-// `start` and the lengths of the rows of the places from .. to - 1, as far as the cap.
-fn lengths_within(start: u32, from: usize, to: usize, c: &[u32], cap: u32) -> Demand
-    requires { (to ≤ length c.now) × (from ≤ to) × (start ≤ cap) }
-    ensures { DemandIs (start + sum_over to (run from to) (at c.now)) cap result }
-{
-    let mut sum = wide(start);
-    let mut k = from;
-    while k < to {
-        sum += wide(c[k]);
-        if wide(cap) < sum {
-            return Demand::Past;
-        }
-        k += 1;
-    }
-    Demand::Is(sum as u32)
-}
-
-// The constant part and the lengths of the rows of the places below n outside s .. e - 1, as far as the cap.
-fn lengths_around(base: u32, n: usize, s: usize, e: usize, c: &[u32], cap: u32) -> Demand
-    requires { (n ≤ length c.now) × (s ≤ e) × (e ≤ n) × (base ≤ cap) }
-    ensures { DemandIs (base + sum_over n (outside s e) (at c.now)) cap result }
-{
-    let part = lengths_within(base, 0, s, c, cap);
-    let Demand::Is(sum) = part else {
-        return Demand::Past;
-    };
-    lengths_within(sum, e, n, c, cap)
-}
-
-// The least w with F(w) = w for the rows of the places below n outside s .. e - 1, if it is within the cap.
-pub fn least_around(
-    base: u32,
-    n: usize,
-    s: usize,
-    e: usize,
-    c: &[u32],
-    t: &[u32],
-    j: &[u32],
-    cap: u32,
-) -> Settled
-    requires { Columns n c.now t.now j.now × (s ≤ e) × (e ≤ n) × (cap ≤ 1000000) }
-    ensures { SettledIs (demand n (at c.now) (at t.now) (at j.now) base (outside s e)) cap result }
+// The least w with F(w) = w, if it is within the cap: the rows around the band's run are above it.
+pub fn least_around(base: u32, rows: &[Terms], band: Run, cap: u32) -> Option<u32>
+    requires { Rates rows.now × (band.e ≤ length rows.now) × (cap ≤ 1000000) }
+    ensures { SettledIs (demand (length rows.now) (at (lengths rows.now)) (at (periods rows.now)) (at (jitters rows.now)) base (outside band.s band.e)) cap result }
 {
     if cap < base {
-        return Settled::Never;
+        return None;
     }
     // Each row above counts at least once, so no w below the start is a solution.
-    let lengths = lengths_around(base, n, s, e, c, cap);
-    let Demand::Is(start) = lengths else {
-        return Settled::Never;
-    };
-    let mut w = start;
+    let mut w = sum_around(base, rows, band, &Lengths, cap)?;
+    // A `loop`, since the climb counts nothing: it ends where a step stays.
     loop {
-        let sum = demand_around(base, n, s, e, c, t, j, cap, w);
-        let Demand::Is(next) = sum else {
-            return Settled::Never;
-        };
+        let next = sum_around(base, rows, band, &Within { w }, cap)?;
         if next == w {
-            return Settled::At(w);
+            return Some(w);
         }
         w = next;
     }

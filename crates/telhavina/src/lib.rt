@@ -2,67 +2,40 @@
 #![tactic(auto)]
 
 ghost use Rattle.std.specs.Prelude.{◌≡◌};
-ghost use Rattle.intake.specs.Answer.{said};
-ghost use Rattle.book.specs.Replies.{reading_answer, writing_answer, BookRead, BookWritten};
+ghost use Rattle.intake.specs.Answer.{said, told_as};
+ghost use Rattle.book.specs.Replies.{BookRead, BookWritten};
 ghost use Rattle.judge.specs.Judged.{judgement_answer, Judged};
-ghost use Rattle.finder.specs.Searched.{finding_answer, Searched};
+ghost use Rattle.finder.specs.Searched.{Searched};
 ghost use Rattle.desk.specs.Ledger.{fresh};
-ghost use Rattle.desk.specs.Replies.{decision_answer, Claimed, Withdrawn};
+ghost use Rattle.desk.specs.Replies.{Claimed, Withdrawn};
 
-fn judgement_reply(j: judge::Judgement) -> intake::Reply
-    ensures { said result ≡ judgement_answer j }
+use desk::Ledger;
+use intake::{Refusal, Reply};
+
+// The reply to a call: its own number, which C knows it by, with what it tells, or a refusal's. Not a `From`: `Result` and `Reply` are of other crates.
+fn told(number: u32, answer: Result<u32, Refusal>) -> Reply
+    ensures { said result ≡ told_as number answer }
 {
-    match j {
-        judge::Judgement::Passed => intake::numbered(100, 0, 0),
-        judge::Judgement::Late(place) => intake::numbered(101, place, 0),
-        judge::Judgement::Refused(r) => intake::refusal_reply(r),
+    match answer {
+        Ok(x) => intake::numbered(number, x, 0),
+        Err(refusal) => Reply::from(refusal),
     }
 }
 
-fn finding_reply(f: finder::Finding) -> intake::Reply
-    ensures { said result ≡ finding_answer f }
+// The reply to a judgement, whose two numbers C knows too.
+fn judgement_reply(judgement: Result<Option<u32>, Refusal>) -> Reply
+    ensures { said result ≡ judgement_answer judgement }
 {
-    match f {
-        finder::Finding::Found(tried) => intake::numbered(102, tried, 0),
-        finder::Finding::Refused(r) => intake::refusal_reply(r),
-    }
-}
-
-fn reading_reply(r: book::Reading) -> intake::Reply
-    ensures { said result ≡ reading_answer r }
-{
-    match r {
-        book::Reading::Rows(n) => intake::numbered(103, n, 0),
-        book::Reading::Refused(refusal) => intake::refusal_reply(refusal),
-    }
-}
-
-fn writing_reply(w: book::Writing) -> intake::Reply
-    ensures { said result ≡ writing_answer w }
-{
-    match w {
-        book::Writing::Bytes(n) => intake::numbered(104, n, 0),
-        book::Writing::Refused(refusal) => intake::refusal_reply(refusal),
-    }
-}
-
-fn decision_reply(d: desk::Decision) -> intake::Reply
-    ensures { said result ≡ decision_answer d }
-{
-    match d {
-        desk::Decision::Granted(edition) => intake::numbered(105, edition, 0),
-        desk::Decision::Withdrawn(edition) => intake::numbered(106, edition, 0),
-        desk::Decision::Refused(refusal) => intake::refusal_reply(refusal),
+    match judgement {
+        Ok(None) => intake::numbered(100, 0, 0),
+        Ok(Some(place)) => intake::numbered(101, place, 0),
+        Err(refusal) => Reply::from(refusal),
     }
 }
 
 // Judges an order: see include/telhavina.h.
 #[unsafe(no_mangle)]
-pub extern "C" fn telhavina_judge(
-    table: &[u32],
-    order: &[u32],
-    figures: &mut [u32],
-) -> intake::Reply
+pub extern "C" fn telhavina_judge(table: &[u32], order: &[u32], figures: &mut [u32]) -> Reply
     ensures { Judged table.now order.now figures.old figures.new (said result) }
 {
     judgement_reply(judge::judge(table, order, figures))
@@ -70,31 +43,31 @@ pub extern "C" fn telhavina_judge(
 
 // Finds an order: see include/telhavina.h.
 #[unsafe(no_mangle)]
-pub extern "C" fn telhavina_find(table: &[u32], order: &mut [u32]) -> intake::Reply
+pub extern "C" fn telhavina_find(table: &[u32], order: &mut [u32]) -> Reply
     ensures { Searched table.now order.old order.new (said result) }
 {
-    finding_reply(finder::find(table, order))
+    told(102, finder::find(table, order))
 }
 
 // Reads a book: see include/telhavina.h.
 #[unsafe(no_mangle)]
-pub extern "C" fn telhavina_book_read(book: &[u8], words: &mut [u32]) -> intake::Reply
+pub extern "C" fn telhavina_book_read(book: &[u8], words: &mut [u32]) -> Reply
     ensures { BookRead book.now words.old words.new (said result) }
 {
-    reading_reply(book::read(book, words))
+    told(103, book::read(book, words))
 }
 
 // Writes a book: see include/telhavina.h.
 #[unsafe(no_mangle)]
-pub extern "C" fn telhavina_book_write(words: &[u32], book: &mut [u8]) -> intake::Reply
+pub extern "C" fn telhavina_book_write(words: &[u32], book: &mut [u8]) -> Reply
     ensures { BookWritten words.now book.old book.new (said result) }
 {
-    writing_reply(book::write(words, book))
+    told(104, book::write(words, book))
 }
 
 // A fresh ledger: see include/telhavina.h.
 #[unsafe(no_mangle)]
-pub extern "C" fn telhavina_ledger_fresh() -> desk::Ledger
+pub extern "C" fn telhavina_ledger_fresh() -> Ledger
     ensures { result ≡ fresh }
 {
     desk::fresh()
@@ -102,24 +75,16 @@ pub extern "C" fn telhavina_ledger_fresh() -> desk::Ledger
 
 // A claim at the desk: see include/telhavina.h.
 #[unsafe(no_mangle)]
-pub extern "C" fn telhavina_claim(
-    ledger: &mut desk::Ledger,
-    row: &[u32],
-    seen: u32,
-) -> intake::Reply
+pub extern "C" fn telhavina_claim(ledger: &mut Ledger, row: &[u32], seen: u32) -> Reply
     ensures { Claimed ledger.old row.now seen ledger.new (said result) }
 {
-    decision_reply(desk::claim(ledger, row, seen))
+    told(105, desk::claim(ledger, row, seen))
 }
 
 // A withdrawal at the desk: see include/telhavina.h.
 #[unsafe(no_mangle)]
-pub extern "C" fn telhavina_withdraw(
-    ledger: &mut desk::Ledger,
-    row: u32,
-    seen: u32,
-) -> intake::Reply
+pub extern "C" fn telhavina_withdraw(ledger: &mut Ledger, row: u32, seen: u32) -> Reply
     ensures { Withdrawn ledger.old row seen ledger.new (said result) }
 {
-    decision_reply(desk::withdraw(ledger, row, seen))
+    told(106, desk::withdraw(ledger, row, seen))
 }

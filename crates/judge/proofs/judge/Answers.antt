@@ -1,23 +1,15 @@
--- `judge::judge` meets its contract: what the table's checks refuse is refused, and what is judged over its columns is judged over its
+-- `judge::judge` meets its contract: what the table's checks refuse is refused, and what is judged over its rows is judged over its
 -- words. Assumes nothing.
-use borrow.Author.Rules.{rules}
 use native.Mathlib.Omega.{arith}
-use native.Mathlib.Nat.{le_refl}
-use Rattle.licence.specs.Limit.{limit}
-use Rattle.intake.specs.Laws.{accepted, taken_in}
-use Rattle.intake.specs.Held.{held}
+use Rattle.intake.specs.Laws.{accepted}
+use Rattle.intake.specs.Held.{held_rows}
 use Rattle.judge.proofs.Joined.{joined}
 use Rattle.judge.proofs.judge.Goals as goal
 
-pub take_in-taken-requires : goal.take_in-taken-requires
-unfolding limit
-take_in-taken-requires c = record { long_c = le_refl limit; long_t = le_refl limit; long_j = le_refl limit; long_e = le_refl limit; long_key = le_refl limit }
-
 pub judge_order-requires : goal.judge_order-requires
-unfolding limit
 judge_order-requires c =
-    let x = taken_in _ _ _ _ _ _ _ c.take_in-taken.ensures c.in-Rows.is in
-    (held _ _ (record { long_c = search rules; long_t = search rules; long_j = search rules; long_e = search rules; long_key = search rules }) x, omega (arith, (accepted _ _ x.unrefused).roomy, x.count))
+    let x = c.in_ok-n.ensures.1 in
+    (held_rows _ _ _ x, omega (arith, (accepted _ _ x.unrefused).roomy, x.count))
 
-pub returns-in-Rows : goal.returns-in-Rows
-returns-in-Rows c = joined _ _ _ _ _ (taken_in _ _ _ _ _ _ _ c.take_in-taken.ensures c.in-Rows.is) c.judge_order.ensures
+pub returns : goal.returns
+returns c = joined _ _ _ _ _ c.in_ok-n.ensures.1 c.judge_order.ensures

@@ -1,17 +1,25 @@
--- `order::longest_of` meets its contract: before place p it is the longest of `below` and of the places passed. Assumes nothing.
-use native.Mathlib.Omega.{arith}
-use Prim.Native.Nat.{max}
-use mathlib.Core.Path.{refl}
+-- `order::longest_of` meets its contract: it is the longest of `below` and of the places passed. Assumes nothing.
+use Rattle.std.specs.Prelude.{◌≡◌, ◌+◌, max}
+use Rattle.std.proofs.Common.{arith, refl}
 use Rattle.sums.specs.Columns.{at}
+use Rattle.sums.specs.Terms.{lengths}
+use Rattle.sums.specs.TermLaws.{cut_inside, cut_at}
 use Rattle.sums.specs.Runs.{run_none, run_next}
 use Rattle.order.proofs.longest_of.Goals as goal
 
-pub loop-p-init : goal.loop-p-init
-loop-p-init c = let a = c.args in (omega arith, omega arith, omega (arith, run_none max 0 refl a.s a.e (at a.c.now)), omega arith)
+pub loop-row-init : goal.loop-row-init
+loop-row-init c =
+    let a = c.args in
+    let here : a.band.s + 0 ≡ a.band.s = omega arith in
+    rw here (omega (arith, run_none max 0 refl a.band.s a.band.e (at (lengths a.rows.now))), c.requires.short)
 
-pub loop-p-preserved : goal.loop-p-preserved
-loop-p-preserved c =
-    let p = c.loop-p.p in
-    let next = run_next max 0 refl c.args.s c.args.e (at c.args.c.now) p (omega arith) (omega arith) in
-    let most = c.requires.most p (omega arith) (omega arith) in
-    (omega arith, omega arith, omega (arith, c.larger-longest.ensures), omega (arith, c.larger-longest.ensures))
+pub loop-row-preserved : goal.loop-row-preserved
+loop-row-preserved c =
+    let a = c.args in
+    let p = a.band.s + c.loop-row.row-index in
+    let inside = cut_inside a.rows.now a.band.s a.band.e c.loop-row.row-index c.loop-row-test.true in
+    let row = cut_at a.rows.now a.band.s a.band.e c.loop-row.row-index c.loop-row-test.true (λ row. row.length) in
+    let step = run_next max 0 refl a.band.s a.band.e (at (lengths a.rows.now)) p (omega arith) inside in
+    let next : a.band.s + (c.loop-row.row-index + 1) ≡ p + 1 = omega arith in
+    let most = c.requires.most p (omega arith) inside in
+    rw next (omega (arith, c.max-longest.ensures, row, step, c.loop-row.invariant.0), omega (arith, c.max-longest.ensures, row, most, c.loop-row.invariant.1))

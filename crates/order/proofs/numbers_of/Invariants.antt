@@ -1,13 +1,11 @@
--- `order::numbers_of` meets its contract: before place p the four numbers are those of the places passed. Assumes nothing.
-use Prim.Native.Nat.{◌≤◌, ◌-◌}
+-- `order::numbers_of` meets its contract: the four numbers are those of the places passed. Assumes nothing.
+use Rattle.std.specs.Prelude.{◌+◌}
 use Rattle.sums.specs.Columns.{at}
+use Rattle.sums.specs.Terms.{lengths, allowed}
 use Rattle.sums.specs.Masks.{run}
 use Rattle.order.specs.Sheet.{NumbersAre}
 use Rattle.order.proofs.numbers_of.Given as goal
 
-abbrev pub invariant-loop-p : goal.invariant-loop-p
-invariant-loop-p l =
-    (l.s ≤ l.p) × (l.p ≤ l.e) × NumbersAre l.p (at l.c) (at l.a) (run l.s l.e) (record { longest = l.longest; sum = l.sum; shortest = l.shortest; tightest = l.tightest })
-
-abbrev pub decreases-loop-p : goal.decreases-loop-p
-decreases-loop-p l = l.e - l.p
+abbrev pub invariant-loop-row : goal.invariant-loop-row
+invariant-loop-row l =
+    NumbersAre (l.fn.band.s + l.row-index) (at (lengths l.rows)) (at (allowed l.rows)) (run l.fn.band.s l.fn.band.e) (record { longest = l.longest; sum = l.sum; shortest = l.shortest; tightest = l.tightest })

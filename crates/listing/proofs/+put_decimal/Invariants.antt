@@ -1,5 +1,0 @@
--- `listing::put_decimal` ends: with each call of itself n is a tenth. Assumes nothing.
-use Rattle.listing.proofs.+put_decimal.Given as goal
-
-abbrev pub decreases-put_decimal : goal.decreases-put_decimal
-decreases-put_decimal l = l.n
