@@ -7,10 +7,11 @@ use Rattle.std.proofs.Math.Seq.{length-take-le}
 use Rattle.std.proofs.lemmas.List.{get_or-map, get_or_past, get_or-take}
 use Rattle.sums.specs.Columns.{at}
 use Rattle.sums.specs.Terms.{column, nothing, lengths, periods, jitters, allowed, keys}
-use Rattle.sums.specs.TermLaws.{at_column, at_part, length_column}
+use Rattle.sums.specs.TermLaws.{at_part, length_column}
 use Rattle.sums.specs.declared.Terms.{Terms}
 use Rattle.licence.specs.Limit.{limit}
-use Rattle.order.specs.Sheet.{Room, Along, Aligned, EntriesIn, Placed}
+use Rattle.order.specs.Sheet.{Aligned, EntriesIn, Placed}
+use Rattle.order.specs.Columns.{aligned_rows}
 use Rattle.finder.specs.Steps.{RunEnds, turned, Turned, SixTurned}
 use Rattle.finder.proofs.Turning.{turned_within, turned_after}
 use Rattle.finder.proofs.Turns.{Known}
@@ -19,16 +20,6 @@ use Rattle.finder.proofs.Turns.{Known}
 pub record Both (made : List ℕ) (along : List Terms) : Type 0 where
   pub is_made : length made ≡ limit
   pub is_along : length along ≡ limit
-
-pub room_both : {n : ℕ} {made : List ℕ} {along : List Terms} → n ≤ limit → Both made along → Room n (lengths along) (periods along) (jitters along) (allowed along) (keys along)
-room_both {along = along} few both =
-    record {
-      long_c = omega (arith, both.is_along, length_column (λ x. x.length) along);
-      long_t = omega (arith, both.is_along, length_column (λ x. x.period) along);
-      long_j = omega (arith, both.is_along, length_column (λ x. x.jitter) along);
-      long_e = omega (arith, both.is_along, length_column (λ x. x.allowed) along);
-      long_key = omega (arith, both.is_along, length_column (λ x. x.key) along);
-    }
 
 -- a run among the first places is a run of them all, up to there
 pub ends_part : (along : List Terms) {s top e : ℕ} → top ≤ length along → RunEnds (keys (take top along)) s (length (take top along)) e → RunEnds (keys along) s top e
@@ -91,11 +82,4 @@ module _ (rows : List Terms) (made : List ℕ) (long : length rows ≤ length ma
   pub aligned_made : (along : List Terms) → length rows ≤ length along → ((p : ℕ) → p < length rows → at made p < length rows) → Placed rows (take (length rows) made) along
       → Aligned (length rows) (lengths rows) (periods rows) (jitters rows) (allowed rows) (keys rows) made (lengths along) (periods along) (jitters along) (allowed along) (keys along)
   aligned_made along room range h =
-      record { along_c = stands (λ x. x.length); along_t = stands (λ x. x.period); along_j = stands (λ x. x.jitter); along_e = stands (λ x. x.allowed); along_key = stands (λ x. x.key) }
-    where
-      stands : (f : Terms → ℕ) → Along (length rows) (column f rows) made (column f along)
-      stands f p l =
-          let here = get_or-take (length rows) made p 0 l in
-          at_column f along p nothing (omega arith)
-          ∙ (ap f (h p nothing (omega (arith, cut)) ∙ ap (λ (k : ℕ). get_or rows k nothing) here)
-          ∙ sym (at_column f rows (at made p) nothing (range p l)))
+      aligned_rows rows made along range room (λ p l. h p nothing (omega (arith, cut)) ∙ ap (λ (k : ℕ). get_or rows k nothing) (get_or-take (length rows) made p 0 l))

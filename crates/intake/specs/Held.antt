@@ -80,4 +80,4 @@ held words room {n} long x =
 
 -- and so are rows that were
 pub held_rows : (words : List ℕ) (room : ℕ) (rows : List Terms) → Taken words room rows → HeldRows rows
-held_rows words room rows = held_in words room (room_of rows)
+held_rows words room rows = held_in words room (room_of rows (omega arith))

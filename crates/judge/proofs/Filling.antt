@@ -13,12 +13,12 @@ use Rattle.sums.specs.Sums.{max_over}
 use Rattle.sums.specs.Columns.{at}
 use Rattle.sums.specs.ColumnLaws.{columns_part}
 use Rattle.sums.specs.TermLaws.{at_part}
-use Rattle.sums.specs.Terms.{lengths, periods, jitters, allowed, keys}
+use Rattle.sums.specs.Terms.{nothing, lengths, periods, jitters, allowed, keys}
 use Rattle.sums.specs.declared.Terms.{Terms}
 use Rattle.order.specs.Orders.{bad_entry, Together}
 use Rattle.order.specs.Parts.{count_part}
 use Rattle.order.specs.Split.{entry_new}
-use Rattle.order.specs.Sheet.{sheet_of, Room, Aligned, Placed, RunIn, RunVerdict}
+use Rattle.order.specs.Sheet.{sheet_of, Aligned, Placed, RunIn, RunVerdict}
 use Rattle.order.specs.Columns.{lengths_part, rates_along, lengths_along, room_of, aligned_rows}
 use Rattle.intake.specs.Held.{HeldRows}
 use Rattle.judge.specs.Judged.{Written}
@@ -28,26 +28,23 @@ use Rattle.judge.proofs.Runs.{shown_there}
 -- ---- the rows along the order
 
 module _ (rows : List Terms) {order : List ℕ} (held : HeldRows rows) (range : InRange (length order) order) (distinct : NoneBad order) (whole : length order ≡ length rows) (together : Together (sheet_of rows) order) where
-  row : (p : ℕ) → p < length order → at order p < length rows
-  row p l = omega (arith, whole, range.range p l)
+  row : (p : ℕ) → p < length rows → at order p < length rows
+  row p l = omega (arith, whole, range.range p (omega (arith, whole)))
 
   sound : Sound (length rows) (sheet_of rows) order
   sound = record { count = whole; entries = rw whole at distinct; together = together }
 
   module _ (along : List Terms) (count : length along ≡ length rows) (placed : Placed rows order along) where
     aligned : Aligned (length rows) (lengths rows) (periods rows) (jitters rows) (allowed rows) (keys rows) order (lengths along) (periods along) (jitters along) (allowed along) (keys along)
-    aligned =
-        subst (λ (m : ℕ). Aligned m (lengths rows) (periods rows) (jitters rows) (allowed rows) (keys rows) order (lengths along) (periods along) (jitters along) (allowed along) (keys along))
-        sound.count (aligned_rows rows order along row (omega (arith, count, sound.count)) placed)
+    aligned = aligned_rows rows order along row (omega (arith, count)) (λ p l. placed p nothing (omega (arith, whole)))
 
     pub laid : LaidRows along
     laid =
-        let room = subst (λ (m : ℕ). Room m (lengths along) (periods along) (jitters along) (allowed along) (keys along)) count (room_of along) in
-        let in_rows = λ (p : ℕ) (l : p < length rows). row p (omega (arith, sound.count)) in
+        let room = room_of along (omega (arith, count)) in
         subst (λ (m : ℕ). Laid m (lengths along) (periods along) (jitters along) (allowed along) (keys along)) (sym count)
         (record {
-          rates = rates_along aligned (le_refl (length rows)) in_rows room held.rates;
-          lengths = lengths_along aligned (le_refl (length rows)) in_rows room held.lengths;
+          rates = rates_along aligned (le_refl (length rows)) row room held.rates;
+          lengths = lengths_along aligned (le_refl (length rows)) row room held.lengths;
           long_key = room.long_key;
         })
 

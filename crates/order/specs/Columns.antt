@@ -1,12 +1,12 @@
 -- What holds of columns holds of their first places, and of the columns along an order.
 -- Assumes nothing.
-use Rattle.std.specs.Prelude.{ℕ, ◌≤◌, ◌<◌, List, length}
+use Rattle.std.specs.Prelude.{ℕ, ◌≤◌, ◌<◌, ◌≡◌, List, length, get_or}
 use Rattle.std.proofs.Common.{arith, sym, ap, ◌∙◌}
 use Rattle.sums.specs.Columns.{Columns, at}
 use Rattle.sums.specs.Terms.{column, nothing, lengths, periods, jitters, allowed, keys}
 use Rattle.sums.specs.TermLaws.{at_column, length_column}
 use Rattle.sums.specs.declared.Terms.{Terms}
-use Rattle.order.specs.Sheet.{Lengths, Room, Along, Aligned, EntriesIn, Placed}
+use Rattle.order.specs.Sheet.{Lengths, Room, Along, Aligned}
 
 pub lengths_part : {n m : ℕ} {c a : List ℕ} → m ≤ n → Lengths n c a → Lengths m c a
 lengths_part l h =
@@ -45,22 +45,23 @@ module _ {n m : ℕ} {c t j e key order c' t' j' e' key' : List ℕ} (along : Al
 
 -- ---- rows
 
--- the columns of rows have room for them
-pub room_of : (rows : List Terms) → Room (length rows) (lengths rows) (periods rows) (jitters rows) (allowed rows) (keys rows)
-room_of rows =
+-- the columns of rows have room for as many
+pub room_of : {n : ℕ} (rows : List Terms) → n ≤ length rows → Room n (lengths rows) (periods rows) (jitters rows) (allowed rows) (keys rows)
+room_of rows few =
     record {
-      long_c = omega (arith, length_column (λ x. x.length) rows);
-      long_t = omega (arith, length_column (λ x. x.period) rows);
-      long_j = omega (arith, length_column (λ x. x.jitter) rows);
-      long_e = omega (arith, length_column (λ x. x.allowed) rows);
-      long_key = omega (arith, length_column (λ x. x.key) rows);
+      long_c = omega (arith, few, length_column (λ x. x.length) rows);
+      long_t = omega (arith, few, length_column (λ x. x.period) rows);
+      long_j = omega (arith, few, length_column (λ x. x.jitter) rows);
+      long_e = omega (arith, few, length_column (λ x. x.allowed) rows);
+      long_key = omega (arith, few, length_column (λ x. x.key) rows);
     }
 
--- the columns of rows that stand along an order stand along it
-pub aligned_rows : (rows : List Terms) (order : List ℕ) (along : List Terms) → EntriesIn rows order → length order ≤ length along → Placed rows order along
-    → Aligned (length order) (lengths rows) (periods rows) (jitters rows) (allowed rows) (keys rows) order (lengths along) (periods along) (jitters along) (allowed along) (keys along)
-aligned_rows rows order along range long h =
+-- the columns of rows that stand along the first n of an order stand along them
+pub aligned_rows : {n : ℕ} (rows : List Terms) (order : List ℕ) (along : List Terms) → ((p : ℕ) → p < n → at order p < length rows) → n ≤ length along
+    → ((p : ℕ) → p < n → get_or along p nothing ≡ get_or rows (at order p) nothing)
+    → Aligned n (lengths rows) (periods rows) (jitters rows) (allowed rows) (keys rows) order (lengths along) (periods along) (jitters along) (allowed along) (keys along)
+aligned_rows {n} rows order along range long h =
     record { along_c = stands (λ x. x.length); along_t = stands (λ x. x.period); along_j = stands (λ x. x.jitter); along_e = stands (λ x. x.allowed); along_key = stands (λ x. x.key) }
   where
-    stands : (f : Terms → ℕ) → Along (length order) (column f rows) order (column f along)
-    stands f p l = at_column f along p nothing (omega arith) ∙ (ap f (h p nothing l) ∙ sym (at_column f rows (at order p) nothing (range p l)))
+    stands : (f : Terms → ℕ) → Along n (column f rows) order (column f along)
+    stands f p l = at_column f along p nothing (omega arith) ∙ (ap f (h p l) ∙ sym (at_column f rows (at order p) nothing (range p l)))

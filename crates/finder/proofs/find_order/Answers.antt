@@ -6,6 +6,7 @@ use Rattle.std.proofs.Math.Seq.{slice}
 use Rattle.licence.specs.Limit.{limit}
 use Rattle.sums.specs.Columns.{at}
 use Rattle.sums.specs.Terms.{lengths, periods, jitters, allowed, keys}
+use Rattle.order.specs.Columns.{room_of}
 use Rattle.order.specs.Parts.{verdict_part, run_part}
 use Rattle.finder.specs.Placing.{found, none}
 use Rattle.finder.proofs.Lining.{lined_range}
@@ -13,7 +14,7 @@ use Rattle.finder.proofs.Waiting.{tried_none, few_bands}
 use Rattle.finder.proofs.Search.{stuck_here, done_here}
 use Rattle.finder.proofs.Turns.{known_first, run_in, stretch, tried_next, known_next, laid_order}
 use Rattle.finder.proofs.Turning.{turned_whole}
-use Rattle.finder.proofs.Columns.{Both, room_both, ends_part, six_turned, cut, in_range, aligned_made}
+use Rattle.finder.proofs.Columns.{Both, ends_part, six_turned, cut, in_range, aligned_made}
 use Rattle.finder.proofs.find_order.Goals as goal
 use Rattle.finder.proofs.find_order.Goals.{After-line_up}
 
@@ -77,7 +78,7 @@ judge_run-requires c =
     let inside : c.loop-s.top ≤ length c.loop-s.along = omega (arith, i.3.is_along, i.4.fits, held.lengths.few) in
     let r = ends_part c.loop-s.along inside c.run_end.ensures in
     run_part c.loop-s.along c.loop-s.top inside
-    (run_in (length rows) (lengths rows) (periods rows) (jitters rows) (allowed rows) (keys rows) held i.4 (room_both held.lengths.few i.3) r.after r.within)
+    (run_in (length rows) (lengths rows) (periods rows) (jitters rows) (allowed rows) (keys rows) held i.4 (room_of c.loop-s.along (omega (arith, i.3.is_along, held.lengths.few))) r.after r.within)
 
 pub overflow_add-tried : goal.overflow_add-tried
 unfolding limit
@@ -90,7 +91,7 @@ longest_of-below-requires c =
     let held = c.requires.0 in
     let i = c.loop-s.invariant in
     let r = ends_part c.loop-s.along (omega (arith, i.3.is_along, i.4.fits, held.lengths.few)) c.run_end.ensures in
-    stretch (length rows) (lengths rows) (periods rows) (jitters rows) (allowed rows) (keys rows) held i.4 (room_both held.lengths.few i.3) r.after r.within
+    stretch (length rows) (lengths rows) (periods rows) (jitters rows) (allowed rows) (keys rows) held i.4 (room_of c.loop-s.along (omega (arith, i.3.is_along, held.lengths.few))) r.after r.within
 
 pub places-preserved : goal.places-preserved
 unfolding limit
