@@ -85,6 +85,37 @@ module _ {A : Type 0} (s e top : ℕ) (list part : List A) (se : s ≤ e) (et : 
           (later p d (omega arith) ∙ (ap (λ (x : ℕ). get_or (part ++ behind) x d) (omega (arith, same, places_long)) ∙ (get_or-append-add part behind (p - top) d
           ∙ (get_or-drop (top - s) (drop s list) (p - top) d ∙ (get_or-drop s list (top - s + (p - top)) d ∙ ap (λ (x : ℕ). get_or list x d) (omega arith))))))
 
+-- those behind the run and then the run, laid over the places s to top - 1
+module _ {A : Type 0} (s e top : ℕ) (list : List A) (se : s ≤ e) (et : e ≤ top) (long : top ≤ length list) where
+  abbrev closer : List A
+  closer = take (top - e) (drop e list)
+
+  abbrev run : List A
+  run = take (e - s) (drop s list)
+
+  places_long' : length (places s e top list (closer ++ run) se et long) ≡ top - s
+  places_long' = places_long s e top list (closer ++ run) se et long
+
+  closer_long : length closer ≡ top - e
+  closer_long = length-take-le (top - e) (drop e list) (omega (arith, length-drop e list))
+
+  run_long : length run ≡ e - s
+  run_long = length-take-le (e - s) (drop s list) (omega (arith, length-drop s list))
+
+  pub laid_behind : Turned s e top list (take s list ++ ((closer ++ run) ++ drop (top - s) (drop s list)))
+  laid_behind =
+      rotated s e top list (closer ++ run) se et long (omega (arith, length-append closer run, closer_long, run_long, places_long')) (
+        λ k d l. get_or-append closer run d k (omega (arith, closer_long, places_long'))
+            ∙ (get_or-take (top - e) (drop e list) k d (omega (arith, places_long')) ∙ (get_or-drop e list k d ∙ (ap (λ (x : ℕ). get_or list x d) (omega arith) ∙ sym (place (k + (e - s)) d (omega (arith, places_long')))))),
+        λ k d h l. ap (λ (x : ℕ). get_or (closer ++ run) x d) (omega (arith, closer_long, places_long'))
+            ∙ (get_or-append-add closer run (k - (top - e)) d ∙ (get_or-take (e - s) (drop s list) (k - (top - e)) d (omega (arith, places_long')) ∙ (get_or-drop s list (k - (top - e)) d
+            ∙ (ap (λ (x : ℕ). get_or list x d) (omega (arith, places_long')) ∙ sym (place _ d (omega (arith, places_long'))))))),
+      )
+    where
+      -- what stands at place q from s on
+      place : (q : ℕ) (d : A) → q < top - s → get_or (take (top - s) (drop s list)) q d ≡ get_or list (s + q) d
+      place q d l = get_or-take (top - s) (drop s list) q d l ∙ get_or-drop s list q d
+
 -- the places up to top turned by themselves: the whole list is then turned up to there
 module _ {A : Type 0} (s e top : ℕ) (list part : List A) (se : s ≤ e) (et : e ≤ top) (long : top ≤ length list) where
   abbrev first : List A

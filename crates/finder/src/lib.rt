@@ -61,19 +61,25 @@ fn run_end(along: &[Terms], s: usize) -> usize
     }
 }
 
-// Puts a run behind the places that follow it, which close up.
-fn turn<T>(list: &mut [T], band: Run)
-    requires { band.e ≤ length list.old }
+// Puts a run behind the places that follow it, which close up. They go by way of lent places, so that no copy overlaps what it copies:
+// `rotate_left` would ask the C library for memmove, and include/telhavina.h promises that memcpy and memset are enough.
+fn turn<T: Copy>(list: &mut [T], band: Run, places: &mut [T])
+    requires { (band.e ≤ length list.old) × (length list.old ≤ length places.old) }
     ensures { Turned band.s band.e (length list.old) list.old list.new }
 {
-    list[band.s..].rotate_left(band.e - band.s);
+    let closer = list.len() - band.e;
+    let moved = list.len() - band.s;
+    places[..closer].copy_from_slice(&list[band.e..]);
+    places[closer..moved].copy_from_slice(&list[band.s..band.e]);
+    list[band.s..].copy_from_slice(&places[..moved]);
 }
 
 // Finds an order over rows, and answers how many bands were tried: fills the lowest place first. `below` is the longest C of the rows placed.
-// No type carries `HeldRows`: see `fill` of the judge.
-fn find_order(rows: &[Terms], order: &mut [u32]) -> Result<u32, Refusal>
-    requires { HeldRows rows.now × (length rows.now ≤ length order.old) }
-    ensures { Answered (sheet_of rows.now) order.old order.new (finding_answer result) }
+// The places of the rows are lent to be overwritten: once the rows stand along the list, the list turns by way of them. No type carries `HeldRows`:
+// see `fill` of the judge.
+fn find_order(rows: &mut [Terms], order: &mut [u32]) -> Result<u32, Refusal>
+    requires { HeldRows rows.old × (length rows.old ≤ length order.old) }
+    ensures { Answered (sheet_of rows.old) order.old order.new (finding_answer result) }
 {
     let n = rows.len();
     // Two lists that turn together, since a verdict takes a slice of rows alone.
@@ -81,6 +87,8 @@ fn find_order(rows: &[Terms], order: &mut [u32]) -> Result<u32, Refusal>
     line_up(rows, &mut made);
     let mut along = [sums::BLANK; licence::LIMIT];
     order::align(rows, &made[..n], &mut along);
+    // The places by way of which `made` turns.
+    let mut places = [0u32; licence::LIMIT];
     let mut below: u32 = 0;
     let mut top = n;
     let mut tried: u32 = 0;
@@ -98,8 +106,8 @@ fn find_order(rows: &[Terms], order: &mut [u32]) -> Result<u32, Refusal>
             if passes {
                 tried += bands;
                 below = order::longest_of(&along, band, below);
-                turn(&mut made[..top], band);
-                turn(&mut along[..top], band);
+                turn(&mut made[..top], band, &mut places);
+                turn(&mut along[..top], band, rows);
                 top -= band.e - band.s;
                 continue 'places;
             }
@@ -117,5 +125,5 @@ pub fn find(table: &[u32], order: &mut [u32]) -> Result<u32, Refusal>
 {
     let mut places = [sums::BLANK; licence::LIMIT];
     let n = intake::take_in(table, order.len(), &mut places)?;
-    find_order(&places[..n], order)
+    find_order(&mut places[..n], order)
 }

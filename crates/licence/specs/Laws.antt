@@ -81,9 +81,12 @@ good_told (suc b) row r e =
     let h = simp eqb-suc-zero at e in
     absurd (let z : ◌≡◌ {A = ℕ} 0 1 = cc in omega arith)
 
-bad_told : (bad : ℕ) (f : Field) (row : Row) → reading_of bad row ≡ Err f → (bad ≡ 0 → ⊥) × (f ≡ field_at bad)
+-- what is told of a bad field is the field, and its number where there is one with that number
+bad_told : (bad : ℕ) (f : Field) (row : Row) → reading_of bad row ≡ Err f → (bad ≡ 0 → ⊥) × (f ≡ field_at bad) × (bad ≤ 6 → number_of f ≡ bad)
 bad_told zero f row e = absurd (let z : ◌≡◌ {A = ℕ} 0 1 = cc in omega arith)
-bad_told (suc b) f row e = (omega arith, let h = simp eqb-suc-zero at e in cc)
+bad_told (suc b) f row e =
+    let told : f ≡ field_at (suc b) = let h = simp eqb-suc-zero at e in cc in
+    (omega arith, told, λ l. ap number_of told ∙ number_at (suc b) (omega arith) l)
 
 -- a row that was read has no bad field, and is the row of the words
 pub read_good : (words : List ℕ) (i : ℕ) {row : Row} → read_at words i ≡ Ok row → (bad_field words i ≡ 0) × (row ≡ row_at words i)
@@ -93,10 +96,7 @@ read_good words i e = good_told _ _ _ e
 -- a row that was not read has a bad field, and that is the field told
 pub read_bad : (words : List ℕ) (i : ℕ) {f : Field} → read_at words i ≡ Err f → (bad_field words i ≡ 0 → ⊥) × (number_of f ≡ bad_field words i)
 unfolding read_at
-read_bad words i e =
-    let t = bad_told _ _ _ e in
-    let some : 1 ≤ bad_field words i = omega (arith, t.0) in
-    (t.0, ap number_of t.1 ∙ number_at (bad_field words i) some (bad_most words i))
+read_bad words i e = let t = bad_told _ _ _ e in (t.0, t.2 (bad_most words i))
 
 -- ---- one row in two places: row i of some words is row j of others, word for word
 abbrev pub SameRow : (words : List ℕ) (i : ℕ) (others : List ℕ) (j : ℕ) → Type 0
