@@ -2,7 +2,7 @@
 use Prim.Native.Nat.{ℕ, ◌+◌, ◌-◌, ◌≤◌, ◌<◌}
 use native.Mathlib.Decide.{dec_lt}
 use native.Mathlib.Omega.{arith}
-use mathlib.Core.Path.{◌≡◌, sym, ap, ◌∙◌}
+use mathlib.Core.Path.{◌≡◌, refl, sym, ap, ◌∙◌}
 use mathlib.Core.List.{List, ◌++◌}
 use lib.ListN.{length, get_or, take, drop, length-append, length-drop, get_or-append}
 use lib.Seq.{slice, length-slice, length-take-le, get_or-take, get_or-drop, get_or-append-add, ext_get_or}
@@ -40,6 +40,15 @@ module _ (s e top p : ℕ) where
       go (yes a) w = rw (turned_before a) l
       go (no a) (yes b) = rw (turned_closer (omega arith) b) b
       go (no a) (no b) = rw (turned_run (omega arith) (omega arith) l) (omega arith)
+
+-- a run that is last already stays where it is
+pub turned_last : {A : Type 0} (s e top : ℕ) (list : List A) → s ≤ e → e ≡ top → Turned s e top list list
+turned_last s e top list se last = record { long = refl; moved = λ p d. ap (λ (x : ℕ). get_or list x d) (sym (stays p (dec_lt p s) (dec_lt p top))) }
+  where
+    stays : (p : ℕ) → Dec (p < s) → Dec (p < top) → turned s e top p ≡ p
+    stays p (yes a) _ = turned_before s e top p a
+    stays p (no a) (yes b) = turned_run s e top p (omega arith) (omega arith) b ∙ omega arith
+    stays p (no a) (no b) = turned_after s e top p (omega arith) (omega arith)
 
 -- the places s to top - 1 rotated, so that the run comes last
 module _ {A : Type 0} (s e top : ℕ) (list part : List A) (se : s ≤ e) (et : e ≤ top) (long : top ≤ length list) where

@@ -68,6 +68,9 @@ fn turn<T: Copy>(list: &mut [T], band: Run, places: &mut [T])
     ensures { Turned band.s band.e (length list.old) list.old list.new }
 {
     let closer = list.len() - band.e;
+    if closer == 0 {
+        return;
+    }
     let moved = list.len() - band.s;
     places[..closer].copy_from_slice(&list[band.e..]);
     places[closer..moved].copy_from_slice(&list[band.s..band.e]);

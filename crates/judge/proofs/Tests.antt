@@ -10,10 +10,10 @@ use Rattle.order.specs.Orders.{bad_entry, resumes}
 use Rattle.order.specs.Marks.{Flags, shown_before}
 use Rattle.judge.specs.Walk.{zero_at}
 
-by_true : {b : Bool} → b ≡ true → Is b
+pub by_true : {b : Bool} → b ≡ true → Is b
 by_true e = rw e tt
 
-by_false : {b : Bool} → b ≡ false → Is b → ⊥
+pub by_false : {b : Bool} → b ≡ false → Is b → ⊥
 by_false e h = rw e at h
 
 -- an entry is out of range, a repeat, or neither

@@ -8,8 +8,11 @@ use lib.Seq.{length-take-le, take_at}
 use Rattle.std.specs.Prelude.{List}
 use Rattle.std.proofs.lemmas.Slice.{take-put_mid}
 use Rattle.finder.specs.Steps.{Turned}
-use Rattle.finder.proofs.Turning.{laid_behind}
+use Rattle.finder.proofs.Turning.{turned_last, laid_behind}
 use Rattle.finder.proofs.turn.Goals as goal
+
+pub returns-then-closer-eq0 : goal.returns-then-closer-eq0
+returns-then-closer-eq0 g c = let a = c.args in turned_last a.band.s a.band.e (length a.list.now) a.list.now a.band.forward (omega (arith, c.requires.0))
 
 pub returns : goal.returns
 returns g c =
