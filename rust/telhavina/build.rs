@@ -19,6 +19,8 @@ fn main() {
             archive.display()
         );
     }
+    // for tests/archive.rs
+    println!("cargo::rustc-env=TELHAVINA_ARCHIVE={}", archive.display());
     println!("cargo::rustc-link-search=native={}", dir.display());
     println!("cargo::rustc-link-lib=static=telhavina");
 }

@@ -7,6 +7,7 @@ use mathlib.Core.List.{List, ◌++◌}
 use lib.ListN.{length, get_or, take, drop, length-append, length-drop, get_or-append}
 use lib.Seq.{slice, length-slice, length-take-le, get_or-take, get_or-drop, get_or-append-add, ext_get_or}
 use Rattle.std.specs.List.{RotatedLeft}
+use Rattle.std.proofs.lemmas.List.{get_or-append_right}
 use borrow.Author.Tests.{lt-ltb, le-ltb}
 use Rattle.sums.specs.Columns.{at}
 use Rattle.finder.specs.Rising.{at_left, at_right}
@@ -50,8 +51,8 @@ turned_last s e top list se last = record { long = refl; moved = λ p d. ap (λ 
     stays p (no a) (yes b) = turned_run s e top p (omega arith) (omega arith) b ∙ omega arith
     stays p (no a) (no b) = turned_after s e top p (omega arith) (omega arith)
 
--- the places s to top - 1 rotated, so that the run comes last
-module _ {A : Type 0} (s e top : ℕ) (list part : List A) (se : s ≤ e) (et : e ≤ top) (long : top ≤ length list) where
+-- the places s to top - 1: where they are rotated, the run comes last
+module _ {A : Type 0} (s e top : ℕ) (list : List A) (se : s ≤ e) (et : e ≤ top) (long : top ≤ length list) where
   abbrev places : List A
   places = take (top - s) (drop s list)
 
@@ -64,8 +65,11 @@ module _ {A : Type 0} (s e top : ℕ) (list part : List A) (se : s ≤ e) (et : 
   places_long : length places ≡ top - s
   places_long = length-take-le (top - s) (drop s list) (omega (arith, length-drop s list))
 
-  pub rotated : length part ≡ length places → RotatedLeft places part (length places) (e - s) → Turned s e top list (take s list ++ (part ++ behind))
-  rotated same r =
+  stood : (q : ℕ) (d : A) → q < top - s → get_or places q d ≡ get_or list (s + q) d
+  stood q d l = get_or-take (top - s) (drop s list) q d l ∙ get_or-drop s list q d
+
+  pub rotated : (part : List A) → length part ≡ length places → RotatedLeft places part (length places) (e - s) → Turned s e top list (take s list ++ (part ++ behind))
+  rotated part same r =
       record {
         long = omega (arith, length-append (take s list) (part ++ behind), length-append part behind, length-drop (top - s) (drop s list), length-drop s list, before_long, places_long);
         moved = λ p d. go p d (dec_lt p s) (dec_lt (p + (e - s)) top) (dec_lt p top);
@@ -78,52 +82,42 @@ module _ {A : Type 0} (s e top : ℕ) (list part : List A) (se : s ≤ e) (et : 
       within : (p : ℕ) (d : A) → s ≤ p → p < top → get_or (take s list ++ (part ++ behind)) p d ≡ get_or part (p - s) d
       within p d h l = later p d h ∙ get_or-append part behind d (p - s) (omega (arith, same, places_long))
 
-      was : (q : ℕ) (d : A) → q < top - s → get_or places q d ≡ get_or list (s + q) d
-      was q d l = get_or-take (top - s) (drop s list) q d l ∙ get_or-drop s list q d
-
       go : (p : ℕ) (d : A) → Dec (p < s) → Dec (p + (e - s) < top) → Dec (p < top) → get_or (take s list ++ (part ++ behind)) p d ≡ get_or list (turned s e top p) d
       go p d (yes a) _ _ = rw (turned_before s e top p a) (get_or-append (take s list) (part ++ behind) d p (omega (arith, before_long)) ∙ get_or-take s list p d a)
       go p d (no a) (yes b) _ =
           rw (turned_closer s e top p (omega arith) b)
-          (within p d (omega arith) (omega arith) ∙ (r.0 (p - s) d (omega (arith, places_long)) ∙ (was (p - s + (e - s)) d (omega arith) ∙ ap (λ (x : ℕ). get_or list x d) (omega arith))))
+          (within p d (omega arith) (omega arith) ∙ (r.0 (p - s) d (omega (arith, places_long)) ∙ (stood (p - s + (e - s)) d (omega arith) ∙ ap (λ (x : ℕ). get_or list x d) (omega arith))))
       go p d (no a) (no b) (yes c) =
           rw (turned_run s e top p (omega arith) (omega arith) c)
-          (within p d (omega arith) c ∙ (r.1 (p - s) d (omega (arith, places_long)) (omega (arith, places_long)) ∙ (was _ d (omega (arith, places_long)) ∙ ap (λ (x : ℕ). get_or list x d) (omega (arith, places_long)))))
+          (within p d (omega arith) c ∙ (r.1 (p - s) d (omega (arith, places_long)) (omega (arith, places_long)) ∙ (stood _ d (omega (arith, places_long)) ∙ ap (λ (x : ℕ). get_or list x d) (omega (arith, places_long)))))
       go p d (no a) (no b) (no c) =
           rw (turned_after s e top p (omega arith) (omega arith))
           (later p d (omega arith) ∙ (ap (λ (x : ℕ). get_or (part ++ behind) x d) (omega (arith, same, places_long)) ∙ (get_or-append-add part behind (p - top) d
           ∙ (get_or-drop (top - s) (drop s list) (p - top) d ∙ (get_or-drop s list (top - s + (p - top)) d ∙ ap (λ (x : ℕ). get_or list x d) (omega arith))))))
 
--- those behind the run and then the run, laid over the places s to top - 1
-module _ {A : Type 0} (s e top : ℕ) (list : List A) (se : s ≤ e) (et : e ≤ top) (long : top ≤ length list) where
+  -- those behind the run, and the run
   abbrev closer : List A
   closer = take (top - e) (drop e list)
 
   abbrev run : List A
   run = take (e - s) (drop s list)
 
-  places_long' : length (places s e top list (closer ++ run) se et long) ≡ top - s
-  places_long' = places_long s e top list (closer ++ run) se et long
-
-  closer_long : length closer ≡ top - e
+  pub closer_long : length closer ≡ top - e
   closer_long = length-take-le (top - e) (drop e list) (omega (arith, length-drop e list))
 
-  run_long : length run ≡ e - s
+  pub run_long : length run ≡ e - s
   run_long = length-take-le (e - s) (drop s list) (omega (arith, length-drop s list))
 
-  pub laid_behind : Turned s e top list (take s list ++ ((closer ++ run) ++ drop (top - s) (drop s list)))
+  -- laid one behind the other, they are the places rotated
+  pub laid_behind : Turned s e top list (take s list ++ ((closer ++ run) ++ behind))
   laid_behind =
-      rotated s e top list (closer ++ run) se et long (omega (arith, length-append closer run, closer_long, run_long, places_long')) (
-        λ k d l. get_or-append closer run d k (omega (arith, closer_long, places_long'))
-            ∙ (get_or-take (top - e) (drop e list) k d (omega (arith, places_long')) ∙ (get_or-drop e list k d ∙ (ap (λ (x : ℕ). get_or list x d) (omega arith) ∙ sym (place (k + (e - s)) d (omega (arith, places_long')))))),
-        λ k d h l. ap (λ (x : ℕ). get_or (closer ++ run) x d) (omega (arith, closer_long, places_long'))
-            ∙ (get_or-append-add closer run (k - (top - e)) d ∙ (get_or-take (e - s) (drop s list) (k - (top - e)) d (omega (arith, places_long')) ∙ (get_or-drop s list (k - (top - e)) d
-            ∙ (ap (λ (x : ℕ). get_or list x d) (omega (arith, places_long')) ∙ sym (place _ d (omega (arith, places_long'))))))),
+      rotated (closer ++ run) (omega (arith, length-append closer run, closer_long, run_long, places_long)) (
+        λ k d l. get_or-append closer run d k (omega (arith, closer_long, places_long))
+            ∙ (get_or-take (top - e) (drop e list) k d (omega (arith, places_long)) ∙ (get_or-drop e list k d ∙ (ap (λ (x : ℕ). get_or list x d) (omega arith) ∙ sym (stood (k + (e - s)) d (omega (arith, places_long)))))),
+        λ k d h l. get_or-append_right closer run (top - e) k d closer_long (omega (arith, places_long))
+            ∙ (get_or-take (e - s) (drop s list) (k - (top - e)) d (omega (arith, places_long)) ∙ (get_or-drop s list (k - (top - e)) d
+            ∙ (ap (λ (x : ℕ). get_or list x d) (omega (arith, places_long)) ∙ sym (stood _ d (omega (arith, places_long)))))),
       )
-    where
-      -- what stands at place q from s on
-      place : (q : ℕ) (d : A) → q < top - s → get_or (take (top - s) (drop s list)) q d ≡ get_or list (s + q) d
-      place q d l = get_or-take (top - s) (drop s list) q d l ∙ get_or-drop s list q d
 
 -- the places up to top turned by themselves: the whole list is then turned up to there
 module _ {A : Type 0} (s e top : ℕ) (list part : List A) (se : s ≤ e) (et : e ≤ top) (long : top ≤ length list) where

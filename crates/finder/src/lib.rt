@@ -61,25 +61,26 @@ fn run_end(along: &[Terms], s: usize) -> usize
     }
 }
 
-// Puts a run behind the places that follow it, which close up. They go by way of lent places, so that no copy overlaps what it copies:
+// Puts a run behind the places that follow it, which close up. They go by way of spare places, so that no copy overlaps what it copies:
 // `rotate_left` would ask the C library for memmove, and include/telhavina.h promises that memcpy and memset are enough.
-fn turn<T: Copy>(list: &mut [T], band: Run, places: &mut [T])
-    requires { (band.e ≤ length list.old) × (length list.old ≤ length places.old) }
+fn turn<T: Copy>(list: &mut [T], band: Run, spare: &mut [T])
+    requires { (band.e ≤ length list.old) × (length list.old ≤ length spare.old) }
     ensures { Turned band.s band.e (length list.old) list.old list.new }
 {
     let closer = list.len() - band.e;
+    // Behind them already, as at the highest place each time.
     if closer == 0 {
         return;
     }
     let moved = list.len() - band.s;
-    places[..closer].copy_from_slice(&list[band.e..]);
-    places[closer..moved].copy_from_slice(&list[band.s..band.e]);
-    list[band.s..].copy_from_slice(&places[..moved]);
+    spare[..closer].copy_from_slice(&list[band.e..]);
+    spare[closer..moved].copy_from_slice(&list[band.s..band.e]);
+    list[band.s..].copy_from_slice(&spare[..moved]);
 }
 
 // Finds an order over rows, and answers how many bands were tried: fills the lowest place first. `below` is the longest C of the rows placed.
-// The places of the rows are lent to be overwritten: once the rows stand along the list, the list turns by way of them. No type carries `HeldRows`:
-// see `fill` of the judge.
+// The places of the rows are lent to be overwritten: once the rows stand along `made`, they are spare. No type carries `HeldRows`: see `fill` of the
+// judge.
 fn find_order(rows: &mut [Terms], order: &mut [u32]) -> Result<u32, Refusal>
     requires { HeldRows rows.old × (length rows.old ≤ length order.old) }
     ensures { Answered (sheet_of rows.old) order.old order.new (finding_answer result) }
@@ -90,8 +91,7 @@ fn find_order(rows: &mut [Terms], order: &mut [u32]) -> Result<u32, Refusal>
     line_up(rows, &mut made);
     let mut along = [sums::BLANK; licence::LIMIT];
     order::align(rows, &made[..n], &mut along);
-    // The places by way of which `made` turns.
-    let mut places = [0u32; licence::LIMIT];
+    let mut spare = [0u32; licence::LIMIT];
     let mut below: u32 = 0;
     let mut top = n;
     let mut tried: u32 = 0;
@@ -109,7 +109,7 @@ fn find_order(rows: &mut [Terms], order: &mut [u32]) -> Result<u32, Refusal>
             if passes {
                 tried += bands;
                 below = order::longest_of(&along, band, below);
-                turn(&mut made[..top], band, &mut places);
+                turn(&mut made[..top], band, &mut spare);
                 turn(&mut along[..top], band, rows);
                 top -= band.e - band.s;
                 continue 'places;

@@ -81,7 +81,7 @@ good_told (suc b) row r e =
     let h = simp eqb-suc-zero at e in
     absurd (let z : ◌≡◌ {A = ℕ} 0 1 = cc in omega arith)
 
--- what is told of a bad field is the field, and its number where there is one with that number
+-- what is told where a field is bad: that field, which has this number if any has
 bad_told : (bad : ℕ) (f : Field) (row : Row) → reading_of bad row ≡ Err f → (bad ≡ 0 → ⊥) × (f ≡ field_at bad) × (bad ≤ 6 → number_of f ≡ bad)
 bad_told zero f row e = absurd (let z : ◌≡◌ {A = ℕ} 0 1 = cc in omega arith)
 bad_told (suc b) f row e =

@@ -1,5 +1,5 @@
 -- `finder::find_order` meets its contract: before each place the rows that stand follow the placing rule, and at a place no band tried so
--- far passes. Assumes nothing.
+-- far passes. `l.fn.rows` are the rows as they were lent; what stands in their places by then means nothing. Assumes nothing.
 use Rattle.std.specs.Prelude.{◌≡◌, ◌≤◌, ◌-◌}
 use Rattle.std.proofs.Math.Seq.{slice}
 use Rattle.order.specs.Sheet.{sheet_of}
